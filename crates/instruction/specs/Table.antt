@@ -1,0 +1,82 @@
+-- The table of instructions as data, and an instruction to and from its four bytes.
+use Prim.Native.Nat.{ℕ}
+use mathlib.Core.Bool.{Bool, true, false, cond, _&&_}
+use mathlib.Core.List.{List, [], _∷_}
+use lib.Dec.{leb, ltb, eqb}
+use Rattle.instruction.specs.declared.Instruction.{Instruction}
+use Rattle.instruction.specs.declared.Instruction.the-variants.{End, Set, Copy, Add, Subtract, Go, Zero, Raise, Send, Take, Poll, Sandbox, Identity}
+use Rattle.instruction.specs.declared.Decoded.{Decoded}
+use Rattle.instruction.specs.declared.Decoded.the-variants.{Legal, Illegal}
+
+-- what a byte of an instruction may be: R a register number 0 to 7, T a target below N, L a label 0 to 15,
+-- S a size 1 to 15, any byte, or blank: a byte shown as 0, which must be 0
+pub data Operand : Type 0 where
+  R T L S any blank : Operand
+
+-- the byte x is such an operand, in a program of n instructions
+abbrev pub admits : Operand → ℕ → ℕ → Bool
+admits R n x = ltb x 8
+admits T n x = ltb x n
+admits L n x = ltb x 16
+admits S n x = leb 1 x && leb x 15
+admits any n x = true
+admits blank n x = eqb x 0
+
+-- a row of the table: the code, the operands a b c, and the form that carries them
+pub record Row : Type 0 where
+  pub code : ℕ
+  pub a : Operand
+  pub b : Operand
+  pub c : Operand
+  pub form : ℕ → ℕ → ℕ → Instruction
+
+abbrev pub row : ℕ → Operand → Operand → Operand → (ℕ → ℕ → ℕ → Instruction) → Row
+row k x y z f = record { code = k; a = x; b = y; c = z; form = f }
+
+abbrev pub table : List Row
+table =
+    row 0x00 blank blank blank (λ a b c. End)
+    ∷ row 0x01 R any any (λ a b c. Set a b c)
+    ∷ row 0x02 R R blank (λ a b c. Copy a b)
+    ∷ row 0x03 R R R (λ a b c. Add a b c)
+    ∷ row 0x04 R R R (λ a b c. Subtract a b c)
+    ∷ row 0x05 T blank blank (λ a b c. Go a)
+    ∷ row 0x06 R T blank (λ a b c. Zero a b)
+    ∷ row 0x07 L blank blank (λ a b c. Raise a)
+    ∷ row 0x08 R L R (λ a b c. Send a b c)
+    ∷ row 0x09 R R blank (λ a b c. Take a b)
+    ∷ row 0x0A R R T (λ a b c. Poll a b c)
+    ∷ row 0x0B R T S (λ a b c. Sandbox a b c)
+    ∷ row 0x0C R R blank (λ a b c. Identity a b)
+    ∷ []
+
+abbrev pub legalIf : Bool → Instruction → Decoded
+legalIf true i = Legal i
+legalIf false i = Illegal
+
+-- the row with the code decides
+abbrev pub decodeBy : List Row → ℕ → ℕ → ℕ → ℕ → ℕ → Decoded
+decodeBy [] n code a b c = Illegal
+decodeBy (r ∷ rs) n code a b c =
+    cond (eqb code (r .code)) (legalIf (admits (r .a) n a && admits (r .b) n b && admits (r .c) n c) (r .form a b c))
+    (decodeBy rs n code a b c)
+
+-- the instruction in the four bytes code a b c, in a program of n instructions
+unfoldable pub decode : ℕ → ℕ → ℕ → ℕ → ℕ → Decoded
+decode n code a b c = decodeBy table n code a b c
+
+-- the four bytes of an instruction
+abbrev pub encode : Instruction → List ℕ
+encode End = 0x00 ∷ 0 ∷ 0 ∷ 0 ∷ []
+encode (Set a b c) = 0x01 ∷ a ∷ b ∷ c ∷ []
+encode (Copy a b) = 0x02 ∷ a ∷ b ∷ 0 ∷ []
+encode (Add a b c) = 0x03 ∷ a ∷ b ∷ c ∷ []
+encode (Subtract a b c) = 0x04 ∷ a ∷ b ∷ c ∷ []
+encode (Go a) = 0x05 ∷ a ∷ 0 ∷ 0 ∷ []
+encode (Zero a b) = 0x06 ∷ a ∷ b ∷ 0 ∷ []
+encode (Raise a) = 0x07 ∷ a ∷ 0 ∷ 0 ∷ []
+encode (Send a b c) = 0x08 ∷ a ∷ b ∷ c ∷ []
+encode (Take a b) = 0x09 ∷ a ∷ b ∷ 0 ∷ []
+encode (Poll a b c) = 0x0A ∷ a ∷ b ∷ c ∷ []
+encode (Sandbox a b c) = 0x0B ∷ a ∷ b ∷ c ∷ []
+encode (Identity a b) = 0x0C ∷ a ∷ b ∷ 0 ∷ []

@@ -1,0 +1,133 @@
+// Instructions: each code is decoded into one form that carries its own operands.
+ghost use mathlib.Core.Path.{_≡_};
+ghost use Rattle.instruction.specs.Table.{legalIf, decode, encode};
+ghost use Rattle.instruction.specs.Program.{instructionAt, isLegal, allLegal};
+
+// Document 01's table, a case to a row; `Identity` is its word self, which the language reserves.
+pub enum Instruction {
+    End,
+    Set(u8, u8, u8),
+    Copy(u8, u8),
+    Add(u8, u8, u8),
+    Subtract(u8, u8, u8),
+    Go(u8),
+    Zero(u8, u8),
+    Raise(u8),
+    Send(u8, u8, u8),
+    Take(u8, u8),
+    Poll(u8, u8, u8),
+    Sandbox(u8, u8, u8),
+    Identity(u8, u8),
+}
+
+pub enum Decoded {
+    Legal(Instruction),
+    Illegal,
+}
+
+fn legal_if(ok: bool, i: Instruction) -> Decoded
+    ensures { λ r. ⌜ r ≡ legalIf ok i ⌝ }
+{
+    if ok {
+        Decoded::Legal(i)
+    } else {
+        Decoded::Illegal
+    }
+}
+
+// The instruction in four bytes of a program of n instructions.
+pub fn decode(n: usize, code: u8, a: u8, b: u8, c: u8) -> Decoded
+    ensures { λ r. ⌜ r ≡ decode n code a b c ⌝ }
+{
+    match code {
+        0x00 => legal_if((a == 0) & (b == 0) & (c == 0), Instruction::End),
+        0x01 => legal_if(a < 8, Instruction::Set(a, b, c)),
+        0x02 => legal_if((a < 8) & (b < 8) & (c == 0), Instruction::Copy(a, b)),
+        0x03 => legal_if((a < 8) & (b < 8) & (c < 8), Instruction::Add(a, b, c)),
+        0x04 => legal_if((a < 8) & (b < 8) & (c < 8), Instruction::Subtract(a, b, c)),
+        0x05 => legal_if(((a as usize) < n) & (b == 0) & (c == 0), Instruction::Go(a)),
+        0x06 => legal_if(
+            (a < 8) & ((b as usize) < n) & (c == 0),
+            Instruction::Zero(a, b),
+        ),
+        0x07 => legal_if((a < 16) & (b == 0) & (c == 0), Instruction::Raise(a)),
+        0x08 => legal_if((a < 8) & (b < 16) & (c < 8), Instruction::Send(a, b, c)),
+        0x09 => legal_if((a < 8) & (b < 8) & (c == 0), Instruction::Take(a, b)),
+        0x0A => legal_if(
+            (a < 8) & (b < 8) & ((c as usize) < n),
+            Instruction::Poll(a, b, c),
+        ),
+        0x0B => legal_if(
+            (a < 8) & ((b as usize) < n) & ((1 <= c) & (c <= 15)),
+            Instruction::Sandbox(a, b, c),
+        ),
+        0x0C => legal_if((a < 8) & (b < 8) & (c == 0), Instruction::Identity(a, b)),
+        _ => Decoded::Illegal,
+    }
+}
+
+// The four bytes of an instruction.
+pub fn encode(i: Instruction) -> [u8; 4]
+    ensures { λ r. ⌜ r ≡ encode i ⌝ }
+{
+    match i {
+        Instruction::End => [0x00, 0, 0, 0],
+        Instruction::Set(a, b, c) => [0x01, a, b, c],
+        Instruction::Copy(a, b) => [0x02, a, b, 0],
+        Instruction::Add(a, b, c) => [0x03, a, b, c],
+        Instruction::Subtract(a, b, c) => [0x04, a, b, c],
+        Instruction::Go(a) => [0x05, a, 0, 0],
+        Instruction::Zero(a, b) => [0x06, a, b, 0],
+        Instruction::Raise(a) => [0x07, a, 0, 0],
+        Instruction::Send(a, b, c) => [0x08, a, b, c],
+        Instruction::Take(a, b) => [0x09, a, b, 0],
+        Instruction::Poll(a, b, c) => [0x0A, a, b, c],
+        Instruction::Sandbox(a, b, c) => [0x0B, a, b, c],
+        Instruction::Identity(a, b) => [0x0C, a, b, 0],
+    }
+}
+
+// The instruction at index pc of a program's bytes; none is legal past its last.
+pub fn instruction_at(program: &[u8], pc: usize) -> Decoded
+    ensures { λ r. ⌜ r ≡ instructionAt (now (program .entry)) pc ⌝ }
+{
+    let n = program.len() / 4;
+    if pc < n {
+        let at = 4 * pc;
+        decode(
+            n,
+            program[at],
+            program[at + 1],
+            program[at + 2],
+            program[at + 3],
+        )
+    } else {
+        Decoded::Illegal
+    }
+}
+
+// Whether four bytes hold an instruction of the table.
+fn is_legal(d: Decoded) -> bool
+    ensures { λ r. ⌜ r ≡ isLegal d ⌝ }
+{
+    match d {
+        Decoded::Legal(_) => true,
+        Decoded::Illegal => false,
+    }
+}
+
+// Whether every instruction of a program's bytes is in the table.
+pub fn all_legal(program: &[u8]) -> bool
+    ensures { λ r. ⌜ r ≡ allLegal (now (program .entry)) ⌝ }
+{
+    let n = program.len() / 4;
+    let mut pc: usize = 0;
+    while pc < n {
+        if is_legal(instruction_at(program, pc)) {
+            pc += 1;
+        } else {
+            return false;
+        }
+    }
+    true
+}

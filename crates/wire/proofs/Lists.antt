@@ -1,0 +1,175 @@
+-- Laws of the tests and filters over lists.
+use Prim.Native.Nat.{ℕ, zero, suc, _+_, _≤_, _<_}
+use mathlib.Core.Path.{_≡_, refl, sym, ap, _∙_}
+use mathlib.Core.Bool.{Bool, true, false, cond, _&&_, and-false}
+use mathlib.Core.List.{List, [], _∷_, _++_, map, head?}
+use mathlib.Core.Option.{some}
+use native.Mathlib.Decide.{decLe, decLt}
+use native.Mathlib.Nat.{not-suc-le-zero}
+use native.Mathlib.Numerals.{add-one}
+use native.Mathlib.Omega.{arith}
+use lib.ListN.{length, getD, set, drop, length-append, List·getD-append, List·getD-eq-default}
+use lib.Seq.{getD-drop, getD-append-add}
+use Rattle.wire.specs.Lists.{each, Bytes, Every, all, keep, dropFirst}
+
+-- ---- cases
+
+-- by cases on a test, with the equation at hand: `split (p x) (λ e. rw e ..) (λ e. rw e ..)`
+pub split : {P : Type 0} (b : Bool) → (b ≡ true → P) → (b ≡ false → P) → P
+split true f g = f refl
+split false f g = g refl
+
+pub and-both : (a b : Bool) → (a && b) ≡ true → (a ≡ true) × (b ≡ true)
+and-both true b e = (refl, e)
+and-both false b e = (e, cc)
+
+pub and-intro : (a b : Bool) → a ≡ true → b ≡ true → (a && b) ≡ true
+and-intro a b e f = rw (e, f)
+
+-- ---- numbers below a bound
+
+pub each-intro : (n : ℕ) (f : ℕ → Bool) → ((i : ℕ) → i < n → f i ≡ true) → each n f ≡ true
+unfolding each
+each-intro zero f h = refl
+each-intro (suc n) f h = rw (h n (omega arith)) (each-intro n f (λ i l. h i (omega arith)))
+
+pub each-at : (n : ℕ) (f : ℕ → Bool) → each n f ≡ true → (i : ℕ) → i < n → f i ≡ true
+unfolding each
+each-at zero f e i h = absurd (not-suc-le-zero h)
+each-at (suc n) f e i h =
+    let b = and-both (f n) (each n f) e in
+    let ih = each-at n f (b .1) i in
+    elim (decLe n i) [
+      | yes p ↦ let q : i ≡ n = omega arith in rw q (b .0)
+      | no p ↦ ih (omega arith)
+    ]
+
+-- a loop that goes up through the numbers
+pub each-none : (f : ℕ → Bool) → each 0 f ≡ true
+unfolding each
+each-none f = refl
+
+pub each-more : (j : ℕ) (f : ℕ → Bool) → each j f ≡ true → f j ≡ true → each (j + 1) f ≡ true
+unfolding each
+each-more j f h t = rw (add-one, t) h
+
+pub each-fails : (n : ℕ) (f : ℕ → Bool) (j : ℕ) → j < n → f j ≡ false → each n f ≡ false
+each-fails n f j h t = split (each n f) (λ e. cc (each-at n f e j h)) (λ e. e)
+
+-- ---- elements of a list
+
+module _ {A : Type 0} where
+  -- an element after a store is the new one, at the index of the store, or the old one
+  pub getD-set-at : (P : A → Type 0) (l : List A) (i j : ℕ) (a d : A) → (j ≡ i → P a) → P (getD l j d) → P (getD (set l i a) j d)
+  getD-set-at P [] i j a d f h = h
+  getD-set-at P (x ∷ xs) zero zero a d f h = f refl
+  getD-set-at P (x ∷ xs) zero (suc j) a d f h = h
+  getD-set-at P (x ∷ xs) (suc i) zero a d f h = h
+  getD-set-at P (x ∷ xs) (suc i) (suc j) a d f h = getD-set-at P xs i j a d (λ e. f (ap suc e)) h
+
+  pub map-set : {B : Type 0} (f : A → B) (l : List A) (i : ℕ) (y : A) → map f (set l i y) ≡ set (map f l) i (f y)
+  map-set f [] i y = refl
+  map-set f (x ∷ xs) zero y = refl
+  map-set f (x ∷ xs) (suc i) y = rw (map-set f xs i y)
+
+  -- a map before f that f does not see
+  pub map-absorb : {B : Type 0} (f : A → B) (g : A → A) → ((x : A) → f (g x) ≡ f x) → (l : List A) → map f (map g l) ≡ map f l
+  map-absorb f g h [] = refl
+  map-absorb f g h (x ∷ xs) = rw (h x, map-absorb f g h xs)
+
+  pub length-nil : (l : List A) → length l ≡ 0 → l ≡ []
+  length-nil [] e = refl
+  length-nil (x ∷ xs) e = absurd (omega arith)
+
+-- ---- bytes
+
+pub bytes-drop : (n : ℕ) (s : List ℕ) → Bytes s → Bytes (drop n s)
+bytes-drop n s h i = rw getD-drop (h (n + i))
+
+pub bytes-append : (s t : List ℕ) → Bytes s → Bytes t → Bytes (s ++ t)
+bytes-append [] t h g i = g i
+bytes-append (x ∷ xs) t h g zero = h zero
+bytes-append (x ∷ xs) t h g (suc i) = bytes-append xs t (λ j. h (suc j)) g i
+
+pub bytes-cons : (x : ℕ) (s : List ℕ) → x < 256 → Bytes s → Bytes (x ∷ s)
+bytes-cons x s h g zero = h
+bytes-cons x s h g (suc i) = g i
+
+pub bytes-nil : Bytes []
+bytes-nil i = omega arith
+
+-- ---- every element
+
+module _ {A : Type 0} (P : A → Type 0) where
+  pub every-append : (xs ys : List A) → Every P xs → Every P ys → Every P (xs ++ ys)
+  every-append [] ys h g = g
+  every-append (x ∷ xs) ys h g = (h .0, every-append xs ys (h .1) g)
+
+  pub every-keep : (p : A → Bool) (xs : List A) → Every P xs → Every P (keep p xs)
+  every-keep p [] h = h
+  every-keep p (x ∷ xs) h = let ih = every-keep p xs (h .1) in split (p x) (λ e. rw e (h .0, ih)) (λ e. rw e ih)
+
+  pub every-dropFirst : (p : A → Bool) (xs : List A) → Every P xs → Every P (dropFirst p xs)
+  every-dropFirst p [] h = h
+  every-dropFirst p (x ∷ xs) h = let ih = every-dropFirst p xs (h .1) in split (p x) (λ e. rw e (h .1)) (λ e. rw e (h .0, ih))
+
+  pub every-head : (xs : List A) (x : A) → Every P xs → head? xs ≡ some x → P x
+  every-head [] x h e = let z : _≡_ {A = ℕ} 0 1 = cc in absurd (omega arith)
+  every-head (y ∷ ys) x h e = let z : y ≡ x = cc in rw z at (h .0)
+
+  -- a test that decides P decides it of every element
+  pub every-all : (p : A → Bool) → ((x : A) → P x → p x ≡ true) → (xs : List A) → Every P xs → all p xs ≡ true
+  unfolding all
+  every-all p f [] h = refl
+  every-all p f (x ∷ xs) h = rw (f x (h .0)) (every-all p f xs (h .1))
+
+-- ---- filters
+
+module _ {A : Type 0} where
+  pub keep-append : (p : A → Bool) (xs ys : List A) → keep p (xs ++ ys) ≡ keep p xs ++ keep p ys
+  keep-append p [] ys = refl
+  keep-append p (x ∷ xs) ys = let h = keep-append p xs ys in split (p x) (λ e. rw (e, h)) (λ e. rw (e, h))
+
+  -- two filters are one
+  pub keep-and : (p q : A → Bool) (xs : List A) → keep p (keep q xs) ≡ keep (λ x. q x && p x) xs
+  keep-and p q [] = refl
+  keep-and p q (x ∷ xs) =
+      let h = keep-and p q xs in
+      split (q x) (λ e. split (p x) (λ f. rw (e, f, h)) (λ f. rw (e, f, h))) (λ e. rw (e, h))
+
+  -- a filter that drops nothing
+  pub keep-all : (p : A → Bool) (xs : List A) → Every (λ x. p x ≡ true) xs → keep p xs ≡ xs
+  keep-all p [] h = refl
+  keep-all p (x ∷ xs) h = rw (h .0, keep-all p xs (h .1))
+
+  module _ (p q : A → Bool) where
+    -- leaving elements out leaves no more that pass
+    pub keep-keep-le : (xs : List A) → length (keep p (keep q xs)) ≤ length (keep p xs)
+    keep-keep-le [] = omega arith
+    keep-keep-le (x ∷ xs) =
+        let ih = keep-keep-le xs in
+        split (q x)
+        (λ e. rw e (split (p x) (λ f. rw f (omega arith)) (λ f. rw f ih)))
+        (λ e. rw e (split (p x) (λ f. rw f (omega arith)) (λ f. rw f ih)))
+
+    pub keep-dropFirst-le : (xs : List A) → length (keep p (dropFirst q xs)) ≤ length (keep p xs)
+    keep-dropFirst-le [] = omega arith
+    keep-dropFirst-le (x ∷ xs) =
+        let ih = keep-dropFirst-le xs in
+        split (q x)
+        (λ e. rw e (split (p x) (λ f. rw f (omega arith)) (λ f. rw f (omega arith))))
+        (λ e. rw e (split (p x) (λ f. rw f (omega arith)) (λ f. rw f ih)))
+
+    module _ (stronger : (x : A) → p x ≡ true → q x ≡ true) where
+      -- a weaker test first changes nothing
+      pub keep-keep : (xs : List A) → keep p (keep q xs) ≡ keep p xs
+      keep-keep [] = refl
+      keep-keep (x ∷ xs) =
+          let h = keep-keep xs in
+          split (p x) (λ e. rw (stronger x e, e, h)) (λ e. split (q x) (λ f. rw (f, e, h)) (λ f. rw (f, e, h)))
+
+      pub dropFirst-keep : (xs : List A) → dropFirst p (keep q xs) ≡ keep q (dropFirst p xs)
+      dropFirst-keep [] = refl
+      dropFirst-keep (x ∷ xs) =
+          let h = dropFirst-keep xs in
+          split (p x) (λ e. rw (stronger x e, e)) (λ e. split (q x) (λ f. rw (f, e, f, h)) (λ f. rw (f, e, f, h)))

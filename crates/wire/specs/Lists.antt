@@ -1,0 +1,35 @@
+-- Tests over numbers and lists: each number below a bound, each element, the elements that pass.
+use Prim.Native.Nat.{ℕ, zero, suc, _<_}
+use mathlib.Core.Bool.{Bool, true, cond, _&&_}
+use mathlib.Core.List.{List, [], _∷_}
+use lib.ListN.{getD}
+
+-- f passes at each number below n
+unfoldable pub each : ℕ → (ℕ → Bool) → Bool
+each zero f = true
+each (suc n) f = f n && each n f
+
+-- every element is a byte; past the end getD gives 0
+abbrev pub Bytes : List ℕ → Type 0
+Bytes s = (i : ℕ) → getD s i 0 < 256
+
+module _ {A : Type 0} where
+  -- P holds of every element
+  abbrev pub Every : (A → Type 0) → List A → Type 0
+  Every P [] = Unit {0}
+  Every P (x ∷ xs) = P x × Every P xs
+
+  -- p passes at every element
+  unfoldable pub all : (A → Bool) → List A → Bool
+  all p [] = true
+  all p (x ∷ xs) = p x && all p xs
+
+  -- the elements at which p passes, in order
+  abbrev pub keep : (A → Bool) → List A → List A
+  keep p [] = []
+  keep p (x ∷ xs) = cond (p x) (x ∷ keep p xs) (keep p xs)
+
+  -- all but the first element at which p passes
+  abbrev pub dropFirst : (A → Bool) → List A → List A
+  dropFirst p [] = []
+  dropFirst p (x ∷ xs) = cond (p x) xs (x ∷ dropFirst p xs)

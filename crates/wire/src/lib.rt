@@ -1,0 +1,1 @@
+// Numbers as bytes, lists and outputs: definitions and laws that every other crate cites.
