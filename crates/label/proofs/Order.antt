@@ -6,6 +6,7 @@ use native.Mathlib.Omega.{arith}
 use borrow.Author.Tests.{le-leb, leb-true}
 use lib.Dec.{leb}
 use lib.Bits.{bitAnd, bitOr, or-lt, or-shr, or-step}
+use Rattle.wire.specs.Lists.{each}
 use Rattle.wire.proofs.Lists.{each-intro, each-at}
 use Rattle.label.specs.Label.{bit, flows, join}
 
@@ -39,3 +40,8 @@ label-order = record {
   above = λ k m. flows-intro k (join k m) (λ o l. omega (arith, bit-join o k m));
   within = λ k m p q. omega (arith, or-lt 4 k m (omega arith) (omega arith));
 }
+
+-- every label flows to 15: computed for the sixteen labels
+pub flows-15 : (k : ℕ) → k ≤ 15 → flows k 15 ≡ true
+unfolding flows each
+flows-15 k h = each-at 16 (λ k. flows k 15) refl k (omega arith)

@@ -1,0 +1,123 @@
+-- Laws of one task's outcome. A task that an observer sees does the same with its hidden messages left out (`outcome-view`);
+-- whatever a task does goes to labels that its own flows to, and to slots of its own spare (`outcome-contained`).
+use Prim.Native.Nat.{ℕ, suc, _+_, _-_, _≤_, _<_}
+use mathlib.Core.Path.{_≡_, refl, sym, ap, _∙_}
+use mathlib.Core.Bool.{Bool, true, false, cond}
+use mathlib.Core.Option.{Option, none, some}
+use mathlib.Core.List.{List, [], _∷_}
+use native.Mathlib.Omega.{arith}
+use borrow.Author.Tests.{leb-true}
+use lib.Dec.{leb, eqb}
+use Rattle.wire.specs.Lists.{keep, dropFirst}
+use Rattle.wire.proofs.Lists.{split, keep-keep, dropFirst-keep}
+use Rattle.label.proofs.Order.{Order, DownClosed}
+use Rattle.instruction.specs.declared.Instruction.{Instruction}
+use Rattle.instruction.specs.declared.Instruction.the-variants.{End, Set, Copy, Add, Subtract, Go, Zero, Raise, Send, Take, Poll, Sandbox, Identity}
+use Rattle.instruction.specs.declared.Decoded.{Decoded}
+use Rattle.instruction.specs.declared.Decoded.the-variants.{Legal, Illegal}
+use Rattle.instruction.specs.Program.{count, instructionAt}
+use Rattle.instruction.proofs.Table.{Sound}
+use Rattle.instruction.proofs.Program.{at-sound}
+use Rattle.machine.specs.State.{Message, Task, register, withPc}
+use Rattle.machine.specs.Effect.{Action, quiet, deliver, spawn, Outcome, alone, receivable, oldest, taken, execute, carriedOut, outcome}
+use Rattle.machine.specs.View.{viewTask}
+
+-- the outcome with the hidden messages of its task left out
+abbrev pub viewOutcome : (ℕ → Bool) → Outcome → Outcome
+viewOutcome sees o = record { task = viewTask sees (o .task); action = o .action }
+
+module _ (flows : ℕ → ℕ → Bool) where
+  -- a task t in slot s may become t′ and do this: send to labels that its own flows to, and split its spare for a child
+  abbrev pub Allowed : ℕ → Task → Task → Action → Type 0
+  Allowed s t t′ quiet = t .spare ≡ t′ .spare
+  Allowed s t t′ (deliver j m) = (t .spare ≡ t′ .spare) × (flows (t .label) (m .label) ≡ true)
+  Allowed s t t′ (spawn j c) = (suc (s + t′ .spare) ≡ j) × (suc (t′ .spare + c .spare) ≡ t .spare) × (flows (t .label) (c .label) ≡ true)
+
+  pub record Contained (s : ℕ) (t : Task) (o : Outcome) : Type 0 where
+    pub rises : flows (t .label) (o .task .label) ≡ true
+    pub allowed : Allowed s t (o .task) (o .action)
+
+  module _ (join : ℕ → ℕ → ℕ) (order : Order flows join) where
+    -- ---- a task that the observer sees
+    module _ (sees : ℕ → Bool) (down : DownClosed flows sees) (t : Task) (seen : sees (t .label) ≡ true) where
+      -- what the task may receive the observer sees
+      receivable-seen : (m : Message) → receivable flows t m ≡ true → sees (m .label) ≡ true
+      receivable-seen m h = down (m .label) (t .label) h seen
+
+      oldest-view : oldest flows (viewTask sees t) ≡ oldest flows t
+      oldest-view = rw (keep-keep (receivable flows t) (λ m. sees (m .label)) receivable-seen)
+
+      taken-view : (a b : ℕ) (idle : Task) (o : Option Message)
+          → taken flows a b (viewTask sees idle) (viewTask sees t) o ≡ viewOutcome sees (taken flows a b idle t o)
+      taken-view a b idle none = refl
+      taken-view a b idle (some m) = rw (dropFirst-keep (receivable flows t) (λ m. sees (m .label)) receivable-seen)
+
+      execute-view : (i : Instruction) (s : ℕ) → execute flows join i s (viewTask sees t) ≡ viewOutcome sees (execute flows join i s t)
+      unfolding execute
+      execute-view End s = refl
+      execute-view (Set a b c) s = refl
+      execute-view (Copy a b) s = refl
+      execute-view (Add a b c) s = refl
+      execute-view (Subtract a b c) s = refl
+      execute-view (Go a) s = refl
+      execute-view (Zero a b) s = split (eqb (register t a) 0) (λ e. rw e) (λ e. rw e)
+      execute-view (Raise a) s = refl
+      execute-view (Send a b c) s = split (flows (t .label) b) (λ e. rw e) (λ e. rw e)
+      execute-view (Take a b) s = rw oldest-view (taken-view a b t (oldest flows t))
+      execute-view (Poll a b c) s = rw oldest-view (taken-view a b (withPc c t) (oldest flows t))
+      execute-view (Sandbox a b c) s = split (leb c (t .spare)) (λ e. rw e) (λ e. rw e)
+      execute-view (Identity a b) s = refl
+
+      carriedOut-view : (d : Decoded) (s : ℕ) → carriedOut flows join d s (viewTask sees t) ≡ viewOutcome sees (carriedOut flows join d s t)
+      carriedOut-view (Legal i) s = execute-view i s
+      carriedOut-view Illegal s = refl
+
+      pub outcome-view : (program : List ℕ) (s : ℕ) → outcome flows join program s (viewTask sees t) ≡ viewOutcome sees (outcome flows join program s t)
+      unfolding outcome
+      outcome-view program s =
+          split (eqb (t .pc) (count program)) (λ e. rw e) (λ e. rw e (carriedOut-view (instructionAt program (t .pc)) s))
+
+    -- ---- any task
+    module _ (s : ℕ) (t : Task) where
+      -- only the task itself changes, and neither its label nor its spare
+      alone-contained : (t′ : Task) → t .label ≡ t′ .label → t .spare ≡ t′ .spare → Contained s t (alone t′)
+      alone-contained t′ l k = record { rises = rw l (order .same (t′ .label)); allowed = omega arith }
+
+      taken-contained : (a b : ℕ) (idle : Task) → Contained s t (alone idle) → (o : Option Message) → Contained s t (taken flows a b idle t o)
+      taken-contained a b idle h none = h
+      taken-contained a b idle h (some m) = alone-contained _ refl refl
+
+      execute-contained : (n : ℕ) (i : Instruction) → Sound n i → Contained s t (execute flows join i s t)
+      unfolding execute
+      execute-contained n End h = alone-contained _ refl refl
+      execute-contained n (Set a b c) h = alone-contained _ refl refl
+      execute-contained n (Copy a b) h = alone-contained _ refl refl
+      execute-contained n (Add a b c) h = alone-contained _ refl refl
+      execute-contained n (Subtract a b c) h = alone-contained _ refl refl
+      execute-contained n (Go a) h = alone-contained _ refl refl
+      execute-contained n (Zero a b) h =
+          split (eqb (register t a) 0) (λ e. rw e (alone-contained _ refl refl)) (λ e. rw e (alone-contained _ refl refl))
+      execute-contained n (Raise a) h = record { rises = order .above (t .label) a; allowed = omega arith }
+      execute-contained n (Send a b c) h =
+          split (flows (t .label) b)
+          (λ e. rw e record { rises = order .same (t .label); allowed = (omega arith, e) })
+          (λ e. rw e (alone-contained _ refl refl))
+      execute-contained n (Take a b) h = taken-contained a b t (alone-contained _ refl refl) (oldest flows t)
+      execute-contained n (Poll a b c) h = taken-contained a b (withPc c t) (alone-contained _ refl refl) (oldest flows t)
+      execute-contained n (Sandbox a b c) h =
+          split (leb c (t .spare))
+          (λ e. let fits : c ≤ t .spare = leb-true c (t .spare) e in
+          rw e record { rises = order .same (t .label); allowed = (omega arith, omega arith, order .same (t .label)) })
+          (λ e. rw e (alone-contained _ refl refl))
+      execute-contained n (Identity a b) h = alone-contained _ refl refl
+
+      carriedOut-contained : (program : List ℕ) (d : Decoded) → instructionAt program (t .pc) ≡ d → Contained s t (carriedOut flows join d s t)
+      carriedOut-contained program (Legal i) e = execute-contained (count program) i (at-sound program (t .pc) i e)
+      carriedOut-contained program Illegal e = alone-contained _ refl refl
+
+      pub outcome-contained : (program : List ℕ) → Contained s t (outcome flows join program s t)
+      unfolding outcome
+      outcome-contained program =
+          split (eqb (t .pc) (count program))
+          (λ e. rw e (alone-contained _ refl refl))
+          (λ e. rw e (carriedOut-contained program (instructionAt program (t .pc)) refl))

@@ -1,0 +1,7 @@
+pub mod Mailbox
+pub mod Effect
+pub mod Spare
+pub mod View
+pub mod Valid
+pub mod Turn
+pub mod Machine

@@ -1,0 +1,52 @@
+-- The machine's laws where labels are masks: what the crates above cite.
+use Prim.Native.Nat.{ℕ, _+_, _≤_}
+use mathlib.Core.Path.{_≡_, refl}
+use mathlib.Core.Bool.{Bool, true}
+use mathlib.Core.List.{List, [], _∷_}
+use Rattle.wire.specs.Lists.{Every}
+use Rattle.label.specs.Label.{flows, join}
+use Rattle.label.proofs.Order.{DownClosed, label-order, flows-15}
+use Rattle.machine.specs.State.{Message, Slot, unused, used, State, slotAt}
+use Rattle.machine.specs.Valid.{ValidMessage, ValidSlot, Valid}
+use Rattle.machine.specs.Machine.{turns, view}
+use Rattle.machine.proofs.Valid as Valid
+use Rattle.machine.proofs.View.{AllSeen, view-all}
+use Rattle.machine.proofs.Turn as Turn
+
+-- what flows to a label that flows to v flows to v
+pub observer-down : (v : ℕ) → DownClosed flows (λ l. flows l v)
+observer-down v k l = label-order .chain k l v
+
+-- ---- validity is kept
+
+pub turns-valid : (n : ℕ) (s : State) → Valid s → Valid (turns n s)
+turns-valid = Valid.turns-valid flows join label-order
+
+pub view-valid : (v : ℕ) (s : State) → Valid s → Valid (view v s)
+view-valid v = Valid.view-valid (λ l. flows l v)
+
+-- ---- views and turns
+
+pub turns-add : (m n : ℕ) (s : State) → turns (m + n) s ≡ turns n (turns m s)
+turns-add = Turn.turns-add flows join
+
+-- the view after n turns of the view is the view after n turns
+pub turns-view : (v n : ℕ) (s : State) → Valid s → view v (turns n (view v s)) ≡ view v (turns n s)
+turns-view v = Turn.turns-view flows join label-order (λ l. flows l v) (observer-down v)
+
+pub turns-same : (v n : ℕ) (s t : State) → Valid s → Valid t → view v s ≡ view v t → view v (turns n s) ≡ view v (turns n t)
+turns-same v = Turn.turns-same flows join label-order (λ l. flows l v) (observer-down v)
+
+-- ---- label 15
+
+mailbox-seen : (ms : List Message) → Every ValidMessage ms → Every (λ m. flows (m .label) 15 ≡ true) ms
+mailbox-seen [] h = tt
+mailbox-seen (m ∷ ms) h = (flows-15 (m .label) (h .0 .label), mailbox-seen ms (h .1))
+
+slot-seen : (n s : ℕ) (x : Slot) → ValidSlot n s x → AllSeen (λ l. flows l 15) x
+slot-seen n s unused h = tt
+slot-seen n s (used t) h = (flows-15 (t .label) (h .label), mailbox-seen (t .mailbox) (h .mailbox .each))
+
+-- the observer 15 sees everything
+pub view-15 : (s : State) → Valid s → view 15 s ≡ s
+view-15 s ok = view-all (λ l. flows l 15) s (λ i. slot-seen _ i (slotAt (s .slots) i) (ok .tasks i))

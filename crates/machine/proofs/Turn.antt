@@ -1,0 +1,94 @@
+-- The law that carries secrecy: the view of a turn is the view of what the view itself becomes, for one turn and for n.
+use Prim.Native.Nat.{ℕ, zero, suc, _+_}
+use mathlib.Core.Path.{_≡_, refl, sym, ap, _∙_}
+use mathlib.Core.Bool.{Bool, true, false, cond}
+use mathlib.Core.List.{List, map}
+use native.Mathlib.Nat.{add-zero, add-suc}
+use native.Mathlib.Omega.{arith}
+use lib.Dec.{eqb}
+use lib.ListN.{set, List·getD-map}
+use lib.Seq.{map-set-same, getD-set-other}
+use Rattle.wire.proofs.Lists.{split}
+use Rattle.label.proofs.Order.{Order, DownClosed}
+use Rattle.machine.specs.State.{Task, Slot, unused, used, State, slotAt}
+use Rattle.machine.specs.Effect.{Action, quiet, deliver, spawn, Outcome, outcome}
+use Rattle.machine.specs.Turn.{receive, perform, applied, step, turn, turns}
+use Rattle.machine.specs.View.{viewSlot, view}
+use Rattle.machine.specs.Valid.{Valid}
+use Rattle.machine.proofs.Effect.{Allowed, Contained, outcome-view, outcome-contained}
+use Rattle.machine.proofs.Spare.{Spares}
+use Rattle.machine.proofs.View.{slots-twice, view-twice, slot-hidden, receive-hidden, applied-view}
+use Rattle.machine.proofs.Valid.{valid-spares, view-valid, turns-valid}
+
+-- ---- a task that is hidden
+module _ (flows : ℕ → ℕ → Bool) (sees : ℕ → Bool) (down : DownClosed flows sees) (s : ℕ) (t : Task) (hidden : sees (t .label) ≡ false)
+    (ss : List Slot) (ok : Spares ss) (at : slotAt ss s ≡ used t) where
+  -- what a hidden label flows to is hidden
+  above : (l : ℕ) → flows (t .label) l ≡ true → sees l ≡ false
+  above l h = split (sees l) (λ e. cc (down (t .label) l h e)) (λ e. e)
+
+  perform-hidden : (t′ : Task) (a : Action) → Allowed flows s t t′ a
+      → map (viewSlot sees) (perform a (set ss s (used t′))) ≡ map (viewSlot sees) (set ss s (used t′))
+  perform-hidden t′ quiet h = refl
+  perform-hidden t′ (deliver j m) h =
+      let rs = set ss s (used t′) in
+      map-set-same (viewSlot sees) rs j (receive m (slotAt rs j)) unused (receive-hidden sees m (slotAt rs j) (above (m .label) (h .1)))
+  perform-hidden t′ (spawn j c) h =
+      let free : slotAt (set ss s (used t′)) j ≡ unused
+      = getD-set-other ss s j (used t′) unused (omega arith) ∙ ok .free s j (omega arith) (rw at (omega arith)) in
+      map-set-same (viewSlot sees) (set ss s (used t′)) j (used c) unused (rw free (slot-hidden sees c (above (c .label) (h .2))))
+
+  -- whatever it does, the view stays
+  applied-hidden : (o : Outcome) → Contained flows s t o → map (viewSlot sees) (applied s o ss) ≡ map (viewSlot sees) ss
+  applied-hidden o h =
+      perform-hidden (o .task) (o .action) (h .allowed)
+      ∙ map-set-same (viewSlot sees) ss s (used (o .task)) unused (rw at (slot-hidden sees (o .task) (above (o .task .label) (h .rises)) ∙ sym (slot-hidden sees t hidden)))
+
+module _ (flows : ℕ → ℕ → Bool) (join : ℕ → ℕ → ℕ) (order : Order flows join) where
+  -- ---- one turn
+  module _ (sees : ℕ → Bool) (down : DownClosed flows sees) where
+    module _ (program : List ℕ) (s : ℕ) (ss : List Slot) (ok : Spares ss) where
+      step-view : (x : Slot) → slotAt ss s ≡ x
+          → map (viewSlot sees) (step flows join program s (map (viewSlot sees) ss) (viewSlot sees x)) ≡ map (viewSlot sees) (step flows join program s ss x)
+      step-view unused at = slots-twice sees ss
+      step-view (used t) at =
+          split (sees (t .label))
+          (λ e. rw e
+          (split (eqb (t .kind) 1)
+          (λ k. rw (k, outcome-view flows join order sees down t e program s) (applied-view sees s (outcome flows join program s t) ss))
+          (λ k. rw k (slots-twice sees ss))))
+          (λ e. rw e
+          (split (eqb (t .kind) 1)
+          (λ k. rw k (slots-twice sees ss ∙ sym (applied-hidden flows sees down s t e ss ok at (outcome flows join program s t) (outcome-contained flows join order s t program))))
+          (λ k. rw k (slots-twice sees ss))))
+
+    pub turn-view : (s : State) → Valid s → view sees (turn flows join (view sees s)) ≡ view sees (turn flows join s)
+    unfolding turn view
+    turn-view s ok =
+        let i = s .turnSlot in
+        let x = slotAt (s .slots) i in
+        let h : map (viewSlot sees) (step flows join (s .program) i (map (viewSlot sees) (s .slots)) (slotAt (map (viewSlot sees) (s .slots)) i))
+        ≡ map (viewSlot sees) (step flows join (s .program) i (s .slots) x)
+        = rw (List·getD-map (viewSlot sees) (s .slots) i unused) (step-view (s .program) i (s .slots) (valid-spares s ok) x refl) in
+        rw h
+
+    -- ---- n turns
+
+    -- to run the view and view it again is to view what the whole has become
+    pub turns-view : (n : ℕ) (s : State) → Valid s → view sees (turns flows join n (view sees s)) ≡ view sees (turns flows join n s)
+    unfolding turns
+    turns-view zero s ok = view-twice sees s
+    turns-view (suc n) s ok =
+        sym (turn-view (turns flows join n (view sees s)) (turns-valid flows join order n (view sees s) (view-valid sees s ok)))
+        ∙ rw (turns-view n s ok) (turn-view (turns flows join n s) (turns-valid flows join order n s ok))
+
+    -- equal views stay equal
+    pub turns-same : (n : ℕ) (s t : State) → Valid s → Valid t → view sees s ≡ view sees t
+        → view sees (turns flows join n s) ≡ view sees (turns flows join n t)
+    turns-same n s t ok ok′ e = sym (turns-view n s ok) ∙ rw e (turns-view n t ok′)
+
+module _ (flows : ℕ → ℕ → Bool) (join : ℕ → ℕ → ℕ) where
+  pub turns-add : (m n : ℕ) (s : State) → turns flows join (m + n) s ≡ turns flows join n (turns flows join m s)
+  unfolding turns
+  turns-add m zero s = rw add-zero
+  turns-add m (suc n) s = rw (add-suc, turns-add m n s)

@@ -1,0 +1,248 @@
+-- Valid states stay valid: an outcome keeps every range, so a turn does, and so does a view.
+use Prim.Native.Nat.{ℕ, zero, suc, _+_, _-_, _*_, _^_, _%_, _≤_, _<_}
+use mathlib.Core.Path.{_≡_, refl, sym, ap, _∙_}
+use mathlib.Core.Bool.{Bool, true, false, cond, _&&_}
+use mathlib.Core.Option.{Option, none, some}
+use mathlib.Core.List.{List, [], _∷_, _++_, map}
+use native.Mathlib.Nat.{mod-lt}
+use native.Mathlib.Omega.{arith}
+use borrow.Author.Tests.{leb-true}
+use lib.Dec.{leb, eqb}
+use lib.ListN.{length, getD, set, replicate, length-set, length-map, List·getD-map, List·getD-eq-default}
+use Rattle.wire.specs.Lists.{Bytes, Every, keep, dropFirst}
+use Rattle.wire.proofs.Lists.{split, and-both, every-keep, every-head, getD-set-at}
+use Rattle.label.proofs.Order.{Order}
+use Rattle.instruction.specs.declared.Instruction.{Instruction}
+use Rattle.instruction.specs.declared.Instruction.the-variants.{End, Set, Copy, Add, Subtract, Go, Zero, Raise, Send, Take, Poll, Sandbox, Identity}
+use Rattle.instruction.specs.declared.Decoded.{Decoded}
+use Rattle.instruction.specs.declared.Decoded.the-variants.{Legal, Illegal}
+use Rattle.instruction.specs.Table.{encode}
+use Rattle.instruction.specs.Program.{count, instructionAt}
+use Rattle.instruction.proofs.Table.{Sound}
+use Rattle.instruction.proofs.Program.{at-below, at-sound, at-bytes}
+use Rattle.machine.specs.State.{Message, Task, Slot, unused, used, State, slotAt, spareOf, withKind, withLabel, withSpare, withPc, withMailbox, register, withRegister, next}
+use Rattle.machine.specs.Effect.{Action, quiet, deliver, spawn, Outcome, alone, childOf, childSlot, receivable, oldest, taken, execute, carriedOut, outcome}
+use Rattle.machine.specs.Turn.{hasRoom, receive, perform, applied, successor, step, turn, turns}
+use Rattle.machine.specs.View.{viewTask, viewSlot, view}
+use Rattle.machine.specs.Valid.{ValidMessage, ValidMailbox, ValidTask, ValidSlot, ValidProgram, Valid}
+use Rattle.machine.proofs.Mailbox.{mailbox-keep, mailbox-dropFirst, mailbox-append, mailbox-nil}
+use Rattle.machine.proofs.Effect.{outcome-contained}
+use Rattle.machine.proofs.Spare.{Spares, spares-view, spares-applied, used-low}
+
+-- ---- a task with one field changed
+
+module _ (n s : ℕ) (t : Task) (ok : ValidTask n s t) where
+  kind-ok : (k : ℕ) → 1 ≤ k → k ≤ 5 → ValidTask n s (withKind k t)
+  kind-ok k h g = record { kind-low = h; kind-high = g; label = ok .label; spare = ok .spare; pc = ok .pc; registers = ok .registers; words = ok .words; mailbox = ok .mailbox }
+
+  label-ok : (l : ℕ) → l ≤ 15 → ValidTask n s (withLabel l t)
+  label-ok l h = record { kind-low = ok .kind-low; kind-high = ok .kind-high; label = h; spare = ok .spare; pc = ok .pc; registers = ok .registers; words = ok .words; mailbox = ok .mailbox }
+
+  spare-ok : (k : ℕ) → k ≤ t .spare → ValidTask n s (withSpare k t)
+  spare-ok k h = record { kind-low = ok .kind-low; kind-high = ok .kind-high; label = ok .label; spare = omega (arith, ok .spare); pc = ok .pc; registers = ok .registers; words = ok .words; mailbox = ok .mailbox }
+
+  pc-ok : (x : ℕ) → x ≤ n → ValidTask n s (withPc x t)
+  pc-ok x h = record { kind-low = ok .kind-low; kind-high = ok .kind-high; label = ok .label; spare = ok .spare; pc = h; registers = ok .registers; words = ok .words; mailbox = ok .mailbox }
+
+  mailbox-ok : (ms : List Message) → ValidMailbox ms → ValidTask n s (withMailbox ms t)
+  mailbox-ok ms h = record { kind-low = ok .kind-low; kind-high = ok .kind-high; label = ok .label; spare = ok .spare; pc = ok .pc; registers = ok .registers; words = ok .words; mailbox = h }
+
+  register-ok : (a x : ℕ) → x < 2 ^ 32 → ValidTask n s (withRegister a x t)
+  register-ok a x h = record {
+    kind-low = ok .kind-low;
+    kind-high = ok .kind-high;
+    label = ok .label;
+    spare = ok .spare;
+    pc = ok .pc;
+    registers = rw length-set (ok .registers);
+    words = λ b. getD-set-at (λ (y : ℕ). y < 2 ^ 32) (t .registers) a b x 0 (λ e. h) (ok .words b);
+    mailbox = ok .mailbox;
+  }
+
+  next-ok : t .pc < n → ValidTask n s (next t)
+  next-ok h = pc-ok (t .pc + 1) (omega arith)
+
+-- ---- one task's outcome
+
+-- the action, by the slot that it is for
+abbrev ValidAction : ℕ → Action → Type 0
+ValidAction n quiet = Unit {0}
+ValidAction n (deliver j m) = ValidMessage m
+ValidAction n (spawn j c) = ValidTask n j c
+
+record ValidOutcome (n s : ℕ) (o : Outcome) : Type 0 where
+  pub task : ValidTask n s (o .task)
+  pub action : ValidAction n (o .action)
+
+zeros-low : (k a : ℕ) → getD (replicate k 0) a 0 < 2 ^ 32
+zeros-low zero a = omega arith
+zeros-low (suc k) zero = omega arith
+zeros-low (suc k) (suc a) = zeros-low k a
+
+child-words : (s a : ℕ) → s ≤ 15 → getD (s ∷ replicate 7 0) a 0 < 2 ^ 32
+child-words s zero h = omega arith
+child-words s (suc a) h = zeros-low 7 a
+
+module _ (flows : ℕ → ℕ → Bool) (join : ℕ → ℕ → ℕ) (order : Order flows join) (n s : ℕ) (t : Task) (ok : ValidTask n s t) where
+  alone-ok : (t′ : Task) → ValidTask n s t′ → ValidOutcome n s (alone t′)
+  alone-ok t′ h = record { task = h; action = tt }
+
+  child-ok : (b c : ℕ) → b < n → 1 ≤ c → c ≤ t .spare → ValidTask n (childSlot s t c) (childOf s t b c)
+  child-ok b c h p q = record {
+    kind-low = omega arith;
+    kind-high = omega arith;
+    label = ok .label;
+    spare = omega (arith, ok .spare);
+    pc = omega arith;
+    registers = refl;
+    words = λ a. child-words s a (omega (arith, ok .spare));
+    mailbox = mailbox-nil;
+  }
+
+  oldest-ok : (m : Message) → oldest flows t ≡ some m → ValidMessage m
+  oldest-ok m e =
+      every-head ValidMessage (keep (receivable flows t) (t .mailbox)) m (every-keep ValidMessage (receivable flows t) (t .mailbox) (ok .mailbox .each)) e
+
+  module _ (before : t .pc < n) where
+    -- register a gets x, and the place goes up
+    gets-ok : (a x : ℕ) → x < 2 ^ 32 → ValidOutcome n s (alone (next (withRegister a x t)))
+    gets-ok a x h = alone-ok _ (next-ok n s _ (register-ok n s t ok a x h) before)
+
+    taken-ok : (a b : ℕ) (idle : Task) → ValidTask n s idle → (o : Option Message) → oldest flows t ≡ o → ValidOutcome n s (taken flows a b idle t o)
+    taken-ok a b idle h none e = alone-ok idle h
+    taken-ok a b idle h (some m) e =
+        let g = oldest-ok m e in
+        let ms = dropFirst (receivable flows t) (t .mailbox) in
+        let left = mailbox-ok n s t ok ms (mailbox-dropFirst (t .mailbox) (ok .mailbox) (receivable flows t)) in
+        alone-ok _ (next-ok n s _ (register-ok n s _ (register-ok n s _ left a (m .value) (g .value)) b (m .sender) (omega (arith, g .sender))) before)
+
+    execute-ok : (i : Instruction) → Sound n i → Bytes (encode i) → ValidOutcome n s (execute flows join i s t)
+    unfolding execute
+    execute-ok End h g = alone-ok _ (kind-ok n s t ok 2 (omega arith) (omega arith))
+    execute-ok (Set a b c) h g = gets-ok a (b * 256 + c) (omega (arith, g 2, g 3))
+    execute-ok (Copy a b) h g = gets-ok a (register t b) (ok .words b)
+    execute-ok (Add a b c) h g = gets-ok a _ (mod-lt (register t b + register t c) (omega arith))
+    execute-ok (Subtract a b c) h g = gets-ok a _ (mod-lt (register t b + 2 ^ 32 - register t c) (omega arith))
+    execute-ok (Go a) h g = alone-ok _ (pc-ok n s t ok a (omega arith))
+    execute-ok (Zero a b) h g =
+        split (eqb (register t a) 0) (λ e. rw e (alone-ok _ (pc-ok n s t ok b (omega arith)))) (λ e. rw e (alone-ok _ (next-ok n s t ok before)))
+    execute-ok (Raise a) h g = alone-ok _ (next-ok n s _ (label-ok n s t ok (join (t .label) a) (order .within (t .label) a (ok .label) (h .0))) before)
+    execute-ok (Send a b c) h g =
+        split (flows (t .label) b)
+        (λ e. rw e record { task = next-ok n s t ok before; action = record { label = h .1; sender = omega (arith, ok .spare); value = ok .words c } })
+        (λ e. rw e (alone-ok _ (kind-ok n s t ok 4 (omega arith) (omega arith))))
+    execute-ok (Take a b) h g = taken-ok a b t ok (oldest flows t) refl
+    execute-ok (Poll a b c) h g = taken-ok a b (withPc c t) (pc-ok n s t ok c (omega arith)) (oldest flows t) refl
+    execute-ok (Sandbox a b c) h g =
+        split (leb c (t .spare))
+        (λ e. let fits : c ≤ t .spare = leb-true c (t .spare) e in
+        rw e
+        record {
+          task = next-ok n s _ (register-ok n s _ (spare-ok n s t ok (t .spare - c) (omega arith)) a (childSlot s t c) (omega (arith, ok .spare))) before;
+          action = child-ok b c (omega arith) (omega arith) fits;
+        })
+        (λ e. rw e (alone-ok _ (kind-ok n s t ok 5 (omega arith) (omega arith))))
+    execute-ok (Identity a b) h g =
+        alone-ok _ (next-ok n s _ (register-ok n s _ (register-ok n s t ok a (t .label) (omega (arith, ok .label))) b s (omega (arith, ok .spare))) before)
+
+  module _ (program : List ℕ) (bytes : Bytes program) (size : count program ≡ n) where
+    carriedOut-ok : (d : Decoded) → instructionAt program (t .pc) ≡ d → ValidOutcome n s (carriedOut flows join d s t)
+    carriedOut-ok (Legal i) e =
+        execute-ok (omega (arith, at-below program (t .pc) i e)) i (rw size at (at-sound program (t .pc) i e)) (at-bytes program (t .pc) i bytes e)
+    carriedOut-ok Illegal e = alone-ok t ok
+
+    outcome-ok : ValidOutcome n s (outcome flows join program s t)
+    unfolding outcome
+    outcome-ok =
+        split (eqb (t .pc) (count program))
+        (λ e. rw e (alone-ok _ (kind-ok n s t ok 3 (omega arith) (omega arith))))
+        (λ e. rw e (carriedOut-ok (instructionAt program (t .pc)) refl))
+
+-- ---- all slots
+
+abbrev ValidSlots : ℕ → List Slot → Type 0
+ValidSlots n ss = (i : ℕ) → ValidSlot n i (slotAt ss i)
+
+module _ (n : ℕ) where
+  set-ok : (ss : List Slot) (i : ℕ) (y : Slot) → ValidSlots n ss → ValidSlot n i y → ValidSlots n (set ss i y)
+  set-ok ss i y g h k = getD-set-at (ValidSlot n k) ss i k y unused (λ e. rw e h) (g k)
+
+  receive-ok : (s : ℕ) (m : Message) → ValidMessage m → (x : Slot) → ValidSlot n s x → ValidSlot n s (receive m x)
+  receive-ok s m g unused h = tt
+  receive-ok s m g (used t) h =
+      split (eqb (t .kind) 1 && hasRoom (m .label) (t .mailbox))
+      (λ b. rw b (mailbox-ok n s t h (t .mailbox ++ (m ∷ [])) (mailbox-append (t .mailbox) (h .mailbox) m g (and-both (eqb (t .kind) 1) (hasRoom (m .label) (t .mailbox)) b .1))))
+      (λ b. rw b h)
+
+  perform-ok : (a : Action) → ValidAction n a → (ss : List Slot) → ValidSlots n ss → ValidSlots n (perform a ss)
+  perform-ok quiet h ss g = g
+  perform-ok (deliver j m) h ss g = set-ok ss j (receive m (slotAt ss j)) g (receive-ok j m h (slotAt ss j) (g j))
+  perform-ok (spawn j c) h ss g = set-ok ss j (used c) g h
+
+  applied-ok : (s : ℕ) (o : Outcome) → ValidOutcome n s o → (ss : List Slot) → ValidSlots n ss → ValidSlots n (applied s o ss)
+  applied-ok s o h ss g = perform-ok (o .action) (h .action) (set ss s (used (o .task))) (set-ok ss s (used (o .task)) g (h .task))
+
+  viewSlot-ok : (sees : ℕ → Bool) (s : ℕ) (x : Slot) → ValidSlot n s x → ValidSlot n s (viewSlot sees x)
+  viewSlot-ok sees s unused h = tt
+  viewSlot-ok sees s (used t) h =
+      split (sees (t .label)) (λ e. rw e (mailbox-ok n s t h _ (mailbox-keep (t .mailbox) (h .mailbox) (λ m. sees (m .label))))) (λ e. rw e tt)
+
+-- ---- states
+
+slot-fits : (n s : ℕ) (x : Slot) → s ≤ 15 → ValidSlot n s x → s + spareOf x ≤ 15
+slot-fits n s unused l h = omega arith
+slot-fits n s (used t) l h = h .spare
+
+pub valid-spares : (s : State) → Valid s → Spares (s .slots)
+valid-spares s ok = record { sixteen = ok .sixteen; fits = λ i h. slot-fits (count (s .program)) i (slotAt (s .slots) i) h (ok .tasks i); free = ok .spares }
+
+pub view-valid : (sees : ℕ → Bool) (s : State) → Valid s → Valid (view sees s)
+unfolding view
+view-valid sees s ok =
+    let sp = spares-view sees (s .slots) (valid-spares s ok) in
+    record {
+      program = ok .program;
+      turnSlot = ok .turnSlot;
+      sixteen = sp .sixteen;
+      tasks = λ i. rw (List·getD-map (viewSlot sees) (s .slots) i unused) (viewSlot-ok (count (s .program)) sees i (slotAt (s .slots) i) (ok .tasks i));
+      spares = sp .free;
+    }
+
+module _ (flows : ℕ → ℕ → Bool) (join : ℕ → ℕ → ℕ) (order : Order flows join) where
+  -- one turn of the slot x where the turn slot is
+  module _ (s : State) (ok : Valid s) where
+    step-ok : (x : Slot) → slotAt (s .slots) (s .turnSlot) ≡ x → ValidSlots (count (s .program)) (step flows join (s .program) (s .turnSlot) (s .slots) x)
+    step-ok unused at = ok .tasks
+    step-ok (used t) at =
+        let n = count (s .program) in
+        let i = s .turnSlot in
+        let valid : ValidTask n i t = rw at at (ok .tasks i) in
+        split (eqb (t .kind) 1)
+        (λ e. rw e (applied-ok n i (outcome flows join (s .program) i t) (outcome-ok flows join order n i t valid (s .program) (ok .program .bytes) refl) (s .slots) (ok .tasks)))
+        (λ e. rw e (ok .tasks))
+
+    step-spares : (x : Slot) → slotAt (s .slots) (s .turnSlot) ≡ x → Spares (step flows join (s .program) (s .turnSlot) (s .slots) x)
+    step-spares unused at = valid-spares s ok
+    step-spares (used t) at =
+        let i = s .turnSlot in
+        split (eqb (t .kind) 1)
+        (λ e. rw e (spares-applied (s .slots) (valid-spares s ok) i t at flows (outcome flows join (s .program) i t) (outcome-contained flows join order i t (s .program))))
+        (λ e. rw e (valid-spares s ok))
+
+  pub turn-valid : (s : State) → Valid s → Valid (turn flows join s)
+  unfolding turn
+  turn-valid s ok =
+      let x = slotAt (s .slots) (s .turnSlot) in
+      let sp = step-spares s ok x refl in
+      record {
+        program = ok .program;
+        turnSlot = omega arith;
+        sixteen = sp .sixteen;
+        tasks = step-ok s ok x refl;
+        spares = sp .free;
+      }
+
+  pub turns-valid : (n : ℕ) (s : State) → Valid s → Valid (turns flows join n s)
+  unfolding turns
+  turns-valid zero s ok = ok
+  turns-valid (suc n) s ok = turn-valid (turns flows join n s) (turns-valid n s ok)

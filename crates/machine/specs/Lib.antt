@@ -1,0 +1,6 @@
+pub mod State
+pub mod Effect
+pub mod Turn
+pub mod View
+pub mod Valid
+pub mod Machine

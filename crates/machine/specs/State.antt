@@ -1,0 +1,81 @@
+-- Tasks taken apart: messages, tasks, slots, and the state of them all.
+use Prim.Native.Nat.{ℕ, _+_}
+use mathlib.Core.Bool.{Bool, true, false}
+use mathlib.Core.List.{List}
+use lib.Dec.{eqb}
+use lib.ListN.{getD, set}
+
+pub record Message : Type 0 where
+  pub label : ℕ
+  pub sender : ℕ
+  pub value : ℕ
+
+-- kind: 1 live, 2 done, 3 ran off the program, 4 stopped by a label, 5 stopped for want of spare slots;
+-- pc: 01's place, the index of the next instruction; mailbox: oldest message first
+pub record Task : Type 0 where
+  pub kind : ℕ
+  pub label : ℕ
+  pub spare : ℕ
+  pub pc : ℕ
+  pub registers : List ℕ
+  pub mailbox : List Message
+
+pub data Slot : Type 0 where
+  unused : Slot
+  used : Task → Slot
+
+-- program: its bytes; turnSlot: the slot whose turn is next; slots: 0 to 15 in order
+pub record State : Type 0 where
+  pub program : List ℕ
+  pub turnSlot : ℕ
+  pub slots : List Slot
+
+abbrev pub slotAt : List Slot → ℕ → Slot
+slotAt ss i = getD ss i unused
+
+-- ---- what is asked of a slot; an unused one has no right to any other
+
+abbrev pub isUnused : Slot → Bool
+isUnused unused = true
+isUnused (used t) = false
+
+abbrev pub isLive : Slot → Bool
+isLive unused = false
+isLive (used t) = eqb (t .kind) 1
+
+abbrev pub spareOf : Slot → ℕ
+spareOf unused = 0
+spareOf (used t) = t .spare
+
+-- ---- a task with one field changed
+
+abbrev pub withKind : ℕ → Task → Task
+withKind k t = record { kind = k; label = t .label; spare = t .spare; pc = t .pc; registers = t .registers; mailbox = t .mailbox }
+
+abbrev pub withLabel : ℕ → Task → Task
+withLabel l t = record { kind = t .kind; label = l; spare = t .spare; pc = t .pc; registers = t .registers; mailbox = t .mailbox }
+
+abbrev pub withSpare : ℕ → Task → Task
+withSpare k t = record { kind = t .kind; label = t .label; spare = k; pc = t .pc; registers = t .registers; mailbox = t .mailbox }
+
+abbrev pub withPc : ℕ → Task → Task
+withPc n t = record { kind = t .kind; label = t .label; spare = t .spare; pc = n; registers = t .registers; mailbox = t .mailbox }
+
+abbrev pub withRegisters : List ℕ → Task → Task
+withRegisters rs t = record { kind = t .kind; label = t .label; spare = t .spare; pc = t .pc; registers = rs; mailbox = t .mailbox }
+
+abbrev pub withMailbox : List Message → Task → Task
+withMailbox ms t = record { kind = t .kind; label = t .label; spare = t .spare; pc = t .pc; registers = t .registers; mailbox = ms }
+
+-- ---- registers and place
+
+abbrev pub register : Task → ℕ → ℕ
+register t a = getD (t .registers) a 0
+
+-- register a gets x
+abbrev pub withRegister : ℕ → ℕ → Task → Task
+withRegister a x t = withRegisters (set (t .registers) a x) t
+
+-- the place goes up by 1
+abbrev pub next : Task → Task
+next t = withPc (t .pc + 1) t

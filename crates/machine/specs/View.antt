@@ -1,0 +1,19 @@
+-- Views: an observer is the set of the labels that it sees.
+use Prim.Native.Nat.{ℕ}
+use mathlib.Core.Bool.{Bool, cond}
+use mathlib.Core.List.{List, map}
+use Rattle.wire.specs.Lists.{keep}
+use Rattle.machine.specs.State.{Message, Task, Slot, unused, used, State, withMailbox}
+
+module _ (sees : ℕ → Bool) where
+  -- messages whose labels the observer does not see are left out
+  abbrev pub viewTask : Task → Task
+  viewTask t = withMailbox (keep (λ m. sees (m .label)) (t .mailbox)) t
+
+  -- a task whose label the observer does not see is written as unused
+  abbrev pub viewSlot : Slot → Slot
+  viewSlot unused = unused
+  viewSlot (used t) = cond (sees (t .label)) (used (viewTask t)) unused
+
+  unfoldable pub view : State → State
+  view s = record { program = s .program; turnSlot = s .turnSlot; slots = map viewSlot (s .slots) }
