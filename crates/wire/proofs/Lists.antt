@@ -8,7 +8,7 @@ use native.Mathlib.Decide.{decLe, decLt}
 use native.Mathlib.Nat.{not-suc-le-zero}
 use native.Mathlib.Numerals.{add-one}
 use native.Mathlib.Omega.{arith}
-use lib.ListN.{length, getD, set, drop, length-append, List·getD-append, List·getD-eq-default}
+use lib.ListN.{length, getD, set, take, drop, length-append, List·getD-append, List·getD-eq-default}
 use lib.Seq.{getD-drop, getD-append-add}
 use Rattle.wire.specs.Lists.{each, Bytes, Every, all, keep, dropFirst}
 
@@ -85,6 +85,12 @@ module _ {A : Type 0} where
 
 pub bytes-drop : (n : ℕ) (s : List ℕ) → Bytes s → Bytes (drop n s)
 bytes-drop n s h i = rw getD-drop (h (n + i))
+
+pub bytes-take : (n : ℕ) (b : List ℕ) → Bytes b → Bytes (take n b)
+bytes-take zero b h i = omega arith
+bytes-take (suc n) [] h i = omega arith
+bytes-take (suc n) (x ∷ b) h zero = h zero
+bytes-take (suc n) (x ∷ b) h (suc i) = bytes-take n b (λ j. h (suc j)) i
 
 pub bytes-append : (s t : List ℕ) → Bytes s → Bytes t → Bytes (s ++ t)
 bytes-append [] t h g i = g i

@@ -1,0 +1,241 @@
+-- The round trips of an image: accepted bytes give a valid state that is written as they were, and a valid state's
+-- bytes are accepted and give it back; the lengths of an image; the part of a record.
+use Prim.Native.Nat.{ℕ, zero, suc, _+_, _*_, _-_, _/_, _%_, _^_, _<_, _≤_}
+use mathlib.Core.Path.{_≡_, refl, sym, ap, ap₂, _∙_}
+use mathlib.Core.Bool.{Bool, true, false, _&&_}
+use mathlib.Core.List.{List, [], _∷_, _++_, append-assoc, append-nil}
+use native.Mathlib.Nat.{zero-add, not-suc-le-zero, le-of-suc-le-suc}
+use native.Mathlib.Omega.{arith}
+use borrow.Author.Tests.{leb-true, le-leb, eqb-true, eq-eqb}
+use lib.Dec.{leb, eqb}
+use lib.ListN.{length, getD, take, drop, length-append, length-drop, take-append-drop}
+use lib.Seq.{take-add, length-take-le, take-append-seam, drop-append-seam, getD-append-seam, getD-drop, drop-drop, drop-cons}
+use Rattle.wire.specs.Lists.{Bytes}
+use Rattle.wire.specs.Numbers.{decodeNumber, encodeNumber}
+use Rattle.wire.proofs.Lists.{and-both, length-nil, bytes-take, bytes-drop, bytes-append, bytes-cons}
+use Rattle.wire.proofs.Numbers.{encode-decode, decode-encode, encode-bytes}
+use Rattle.instruction.specs.Program.{count, allLegal}
+use Rattle.machine.specs.State.{Slot, State, slotAt}
+use Rattle.machine.specs.Valid.{ValidProgram, ValidSlot, Valid}
+use Rattle.image.specs.Refusal.{_then_, unless, short}
+use Rattle.image.specs.Record.{slotOf}
+use Rattle.image.specs.Image.{programLength, programOf, turnSlotOf, slotsPart, versionNumber, isProgramLength, programNumber, turnSlotNumber, recordOf, skip, slotsOf, slotsNumber, tailNumber, sparesUnused, spareNumber, imageNumber, stateOf, recordPart, slotsBytes, imageBytes}
+use Rattle.image.proofs.Refusal.{then-left, then-right, then-none, unless-none, short-none, long-enough}
+use Rattle.image.proofs.Slots.{slots-back, slots-valid, slots-length, length-slotsOf, slot-at, slots-number, slots-forth, slots-end, slots-bytes, spares-fact, spares-test}
+
+program-length : (l : ℕ) → isProgramLength l ≡ true → (l % 4 ≡ 0) × (4 ≤ l) × (l ≤ 1024)
+unfolding isProgramLength
+program-length l e =
+    let abc = and-both (eqb (l % 4) 0 && leb 4 l) (leb l 1024) e in
+    let ab = and-both (eqb (l % 4) 0) (leb 4 l) (abc .0) in
+    (eqb-true _ _ (ab .0), leb-true _ _ (ab .1), leb-true _ _ (abc .1))
+
+-- ---- what acceptance says, part by part
+
+pub record Accepted (b : List ℕ) : Type 0 where
+  pub version : getD b 0 0 ≡ 1
+  pub three : 3 ≤ length b
+  pub size : isProgramLength (programLength b) ≡ true
+  pub legal : allLegal (programOf b) ≡ true
+  pub ahead : 4 + programLength b ≤ length b
+  pub turnSlot : turnSlotOf b ≤ 15
+  pub slots : slotsNumber 16 0 (count (programOf b)) (slotsPart b) ≡ 0
+  pub tail : skip 16 (slotsPart b) ≡ []
+  pub spares : sparesUnused (slotsOf 16 (slotsPart b)) ≡ true
+
+pub accepted : (b : List ℕ) → imageNumber b ≡ 0 → Accepted b
+unfolding imageNumber versionNumber programNumber turnSlotNumber tailNumber spareNumber
+accepted b e =
+    let p = then-right (versionNumber b) _ e in
+    let t = then-right (programNumber b) _ p in
+    let s = then-right (turnSlotNumber b) _ t in
+    let r = then-right (slotsNumber 16 0 (count (programOf b)) (slotsPart b)) _ s in
+    let p₂ = then-right (short 3 b) _ (then-left (programNumber b) _ p) in
+    let p₃ = then-right (unless (isProgramLength (programLength b)) 5) _ p₂ in
+    let p₄ = then-right (short (3 + programLength b) b) _ p₃ in
+    let t₂ = then-left (turnSlotNumber b) _ t in
+    record {
+      version = eqb-true _ _ (unless-none (eqb (getD b 0 0) 1) 3 (then-right (short 1 b) _ (then-left (versionNumber b) _ e)));
+      three = short-none 3 b (then-left _ _ (then-left (programNumber b) _ p));
+      size = unless-none (isProgramLength (programLength b)) 4 (then-left _ _ p₂);
+      legal = unless-none (allLegal (programOf b)) 5 p₄;
+      ahead = short-none (4 + programLength b) b (then-left _ _ t₂);
+      turnSlot = leb-true _ _ (unless-none (leb (turnSlotOf b) 15) 6 (then-right (short (4 + programLength b) b) _ t₂));
+      slots = then-left _ _ s;
+      tail = length-nil _ (eqb-true _ _ (unless-none (eqb (length (skip 16 (slotsPart b))) 0) 10 (then-left (tailNumber b) _ r)));
+      spares = unless-none (sparesUnused (slotsOf 16 (slotsPart b))) 11 (then-right (tailNumber b) _ r);
+    }
+
+module _ (b : List ℕ) (a : Accepted b) where
+  size-facts : (programLength b % 4 ≡ 0) × (4 ≤ programLength b) × (programLength b ≤ 1024)
+  size-facts = program-length (programLength b) (a .size)
+
+  program-size : length (programOf b) ≡ programLength b
+  program-size = length-take-le (programLength b) (drop 3 b) (rw length-drop (omega (arith, a .ahead)))
+
+  -- the shortest image has 40 bytes, the longest 7,796
+  pub accepted-length : (40 ≤ length b) × (length b ≤ 7796)
+  unfolding slotsPart
+  accepted-length =
+      let f = size-facts in
+      let s = slots-length 16 0 (count (programOf b)) (slotsPart b) (a .slots) in
+      let z : length (skip 16 (slotsPart b)) ≡ 0 = ap length (a .tail) in
+      let d = length-drop (4 + programLength b) b in
+      (omega (arith, a .ahead), omega (arith, a .ahead))
+
+module _ (b : List ℕ) (h : Bytes b) (a : Accepted b) where
+  -- ---- an accepted image holds a valid state
+
+  pub accepted-valid : Valid (stateOf b)
+  unfolding stateOf slotsPart
+  accepted-valid =
+      let f = size-facts b a in
+      let l = program-size b a in
+      let s = drop (4 + programLength b) b in
+      record {
+        program = record {
+          fours = rw l (f .0);
+          shortest = omega arith;
+          longest = omega arith;
+          bytes = bytes-take (programLength b) (drop 3 b) (bytes-drop 3 b h);
+          legal = a .legal;
+        };
+        turnSlot = a .turnSlot;
+        sixteen = length-slotsOf 16 s;
+        tasks = λ i. rw zero-add at (slots-valid 16 0 (count (programOf b)) s (bytes-drop (4 + programLength b) b h) (a .slots) i);
+        spares = spares-fact (slotsOf 16 s) (length-slotsOf 16 s) (a .spares);
+      }
+
+  -- ---- and is written as it was read
+
+  head-back : 1 ∷ encodeNumber 2 (programLength b) ≡ take 3 b
+  unfolding programLength
+  head-back = go b h (a .version) (a .three)
+    where
+      go : (b : List ℕ) → Bytes b → getD b 0 0 ≡ 1 → 3 ≤ length b → 1 ∷ encodeNumber 2 (decodeNumber 2 (drop 1 b)) ≡ take 3 b
+      go [] h v l = absurd (not-suc-le-zero l)
+      go (x ∷ b) h v l = ap₂ (λ (y : ℕ) (t : List ℕ). y ∷ t) (sym v) (encode-decode 2 b (λ i. h (suc i)) (le-of-suc-le-suc l))
+
+  slots-written : slotsBytes (slotsOf 16 (slotsPart b)) ≡ slotsPart b
+  unfolding slotsPart
+  slots-written =
+      let s = drop (4 + programLength b) b in
+      let w = slotsBytes (slotsOf 16 s) in
+      sym (append-nil w) ∙ ap (λ (t : List ℕ). w ++ t) (sym (a .tail)) ∙ slots-back 16 0 (count (programOf b)) s (bytes-drop (4 + programLength b) b h) (a .slots)
+
+  tail-back : turnSlotOf b ∷ slotsPart b ≡ drop (3 + programLength b) b
+  unfolding slotsPart
+  tail-back =
+      let k : suc (3 + programLength b) ≡ 4 + programLength b = omega arith in
+      rw (← k) (sym (drop-cons b (3 + programLength b) 0 (omega (arith, a .ahead))))
+
+  pub image-back : imageBytes (stateOf b) ≡ b
+  unfolding imageBytes stateOf
+  image-back =
+      ap₂ (λ (x y : List ℕ). x ++ y)
+      (ap₂ (λ (x y : List ℕ). x ++ y) (ap (λ (n : ℕ). 1 ∷ encodeNumber 2 n) (program-size b a) ∙ head-back) refl ∙ sym (take-add 3 (programLength b) b))
+      (ap (λ (t : List ℕ). turnSlotOf b ∷ t) slots-written ∙ tail-back)
+      ∙ take-append-drop (3 + programLength b) b
+
+-- ---- a valid state's bytes are accepted and give it back
+
+module _ (s : State) (ok : Valid s) where
+  b : List ℕ
+  b = imageBytes s
+
+  L : ℕ
+  L = length (s .program)
+
+  size-is : programLength b ≡ L
+  unfolding b L imageBytes programLength
+  size-is = decode-encode 2 (length (s .program)) (s .program ++ s .turnSlot ∷ slotsBytes (s .slots)) (omega (arith, ok .program .longest))
+
+  program-is : take L (drop 3 b) ≡ s .program
+  unfolding b L imageBytes
+  program-is = take-append-seam (s .program) (s .turnSlot ∷ slotsBytes (s .slots))
+
+  turnSlot-is : getD b (3 + L) 0 ≡ s .turnSlot
+  unfolding b L imageBytes
+  turnSlot-is = sym (getD-drop 3 (imageBytes s) (length (s .program)) 0) ∙ getD-append-seam (s .program) (s .turnSlot) (slotsBytes (s .slots)) 0
+
+  slots-are : drop (4 + L) b ≡ slotsBytes (s .slots)
+  unfolding b L imageBytes
+  slots-are =
+      let k : 4 + length (s .program) ≡ 3 + length (s .program) + 1 = omega arith in
+      rw k (sym (drop-drop 1 (3 + length (s .program)) (imageBytes s)) ∙ ap (drop 1) (sym (drop-drop (length (s .program)) 3 (imageBytes s)) ∙ drop-append-seam (s .program) (s .turnSlot ∷ slotsBytes (s .slots))))
+
+  room : 4 + L ≤ length b
+  unfolding b L imageBytes
+  room = omega (arith, length-append (s .program) (s .turnSlot ∷ slotsBytes (s .slots)))
+
+  few : count (s .program) ≤ 256
+  few = omega (arith, ok .program .longest)
+
+  tasks-from-0 : (i : ℕ) → ValidSlot (count (s .program)) (0 + i) (slotAt (s .slots) i)
+  tasks-from-0 i = rw zero-add (ok .tasks i)
+
+  pub image-bytes : Bytes (imageBytes s)
+  unfolding imageBytes
+  image-bytes =
+      let head = encodeNumber 2 (length (s .program)) in
+      let tail = s .turnSlot ∷ slotsBytes (s .slots) in
+      bytes-cons 1 (head ++ s .program ++ tail) (omega arith)
+      (bytes-append (head ++ s .program) tail (bytes-append head (s .program) (encode-bytes 2 (length (s .program))) (ok .program .bytes))
+      (bytes-cons (s .turnSlot) (slotsBytes (s .slots)) (omega (arith, ok .turnSlot)) (slots-bytes (count (s .program)) few 0 (s .slots) tasks-from-0)))
+
+  slots-read : slotsOf 16 (slotsBytes (s .slots)) ≡ s .slots
+  slots-read = ap (λ (k : ℕ). slotsOf k (slotsBytes (s .slots))) (sym (ok .sixteen)) ∙ slots-forth (count (s .program)) few 0 (s .slots) tasks-from-0
+
+  pub image-forth : stateOf (imageBytes s) ≡ s
+  unfolding b L stateOf slotsPart
+  image-forth =
+      let p : take (programLength (imageBytes s)) (drop 3 (imageBytes s)) ≡ s .program = rw size-is program-is in
+      let t : getD (imageBytes s) (3 + programLength (imageBytes s)) 0 ≡ s .turnSlot = rw size-is turnSlot-is in
+      let r : slotsOf 16 (drop (4 + programLength (imageBytes s)) (imageBytes s)) ≡ s .slots = rw (size-is, slots-are) slots-read in
+      λ i. record { program = p i; turnSlot = t i; slots = r i }
+
+  slots-none : slotsNumber 16 0 (count (s .program)) (slotsBytes (s .slots)) ≡ 0
+  slots-none =
+      ap (λ (k : ℕ). slotsNumber k 0 (count (s .program)) (slotsBytes (s .slots))) (sym (ok .sixteen)) ∙ slots-number (count (s .program)) few 0 (s .slots) tasks-from-0
+
+  tail-none : skip 16 (slotsBytes (s .slots)) ≡ []
+  tail-none = ap (λ (k : ℕ). skip k (slotsBytes (s .slots))) (sym (ok .sixteen)) ∙ slots-end (count (s .program)) few 0 (s .slots) tasks-from-0
+
+  version-is : getD b 0 0 ≡ 1
+  unfolding b imageBytes
+  version-is = refl
+
+  size-in-range : isProgramLength (length (s .program)) ≡ true
+  unfolding isProgramLength
+  size-in-range =
+      rw (eq-eqb (length (s .program) % 4) 0 (ok .program .fours), le-leb 4 (length (s .program)) (ok .program .shortest), le-leb (length (s .program)) 1024 (ok .program .longest))
+
+  pub image-accepted : imageNumber (imageBytes s) ≡ 0
+  unfolding b L imageNumber versionNumber programNumber turnSlotNumber slotsPart tailNumber spareNumber
+  image-accepted =
+      let m = room in
+      simp (
+        size-is,
+        version-is,
+        program-is,
+        turnSlot-is,
+        slots-are,
+        slots-read,
+        slots-none,
+        tail-none,
+        size-in-range,
+        ok .program .legal,
+        spares-test (s .slots) (ok .spares),
+        le-leb 1 (length (imageBytes s)) (omega arith),
+        le-leb 3 (length (imageBytes s)) (omega arith),
+        le-leb (3 + length (s .program)) (length (imageBytes s)) (omega arith),
+        le-leb (4 + length (s .program)) (length (imageBytes s)) m,
+        le-leb (s .turnSlot) 15 (ok .turnSlot),
+      )
+
+-- ---- the part that holds a record
+
+-- it is the slot of the image's state
+pub record-part : (b : List ℕ) (s : ℕ) → imageNumber b ≡ 0 → s ≤ 15 → slotOf (recordPart b s) ≡ slotAt (stateOf b .slots) s
+unfolding recordPart stateOf
+record-part b s e h = rw (le-leb s 15 h, e) (sym (slot-at 16 s (slotsPart b) (omega arith)))

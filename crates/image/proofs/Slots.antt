@@ -1,0 +1,226 @@
+-- The slots of an image, one after another: bytes to slots and back, slots to bytes and back, lengths, and the spare rule.
+use Prim.Native.Nat.{ℕ, zero, suc, _+_, _*_, _-_, _/_, _%_, _^_, _<_, _≤_}
+use mathlib.Core.Path.{_≡_, refl, sym, ap, ap₂, _∙_}
+use mathlib.Core.Bool.{Bool, true, false, _&&_, _||_}
+use mathlib.Core.List.{List, [], _∷_, _++_, append-assoc, append-nil}
+use native.Mathlib.Nat.{add-zero, suc-ne-zero}
+use native.Mathlib.Decide.{decLt}
+use native.Mathlib.Omega.{arith}
+use borrow.Author.Tests.{leb-true, le-leb, eqb-true, eqb-false, eq-eqb, ne-eqb}
+use lib.Dec.{leb, eqb}
+use lib.ListN.{length, getD, take, drop, length-append, length-drop, take-append-drop, List·getD-eq-default}
+use lib.Seq.{take-add, length-take-le, take-append-seam, drop-append-seam, drop-drop}
+use Rattle.wire.specs.Lists.{Bytes, each}
+use Rattle.wire.specs.Numbers.{decodeNumber, encodeNumber}
+use Rattle.wire.proofs.Lists.{split, and-both, each-intro, each-at, bytes-take, bytes-drop, bytes-append, bytes-nil}
+use Rattle.wire.proofs.Numbers.{encode-decode, decode-encode, length-encode, encode-bytes}
+use Rattle.machine.specs.State.{Task, Slot, unused, used, slotAt, isUnused, spareOf}
+use Rattle.machine.specs.Valid.{ValidTask, ValidSlot, SparesUnused}
+use Rattle.machine.proofs.Mailbox.{mailbox-64}
+use Rattle.image.specs.Refusal.{_then_, unless, short}
+use Rattle.image.specs.Record.{taskOf, slotOf, recordBytes, recordNumber}
+use Rattle.image.specs.Image.{recordLength, recordOf, behind, skip, slotsOf, isRecordLength, slotNumber, slotsNumber, sparesUnused, slotBytes, slotsBytes}
+use Rattle.image.proofs.Refusal.{then-left, then-right, then-none, unless-none, short-none, long-enough}
+use Rattle.image.proofs.Record.{task-back, task-length, slot-forth, record-bytes, record-valid, valid-record}
+
+-- ---- lengths of records
+
+-- 0, or 37 and whole messages, 421 at most
+pub record Whole (l : ℕ) : Type 0 where
+  pub least : 37 ≤ l
+  pub messages : (l - 37) % 6 ≡ 0
+  pub most : l ≤ 421
+
+pub length-whole : (l : ℕ) → isRecordLength l ≡ true → (l ≡ 0 → ⊥) → Whole l
+unfolding isRecordLength
+length-whole l e ne =
+    let u = rw (ne-eqb l 0 ne) at e in
+    let abc = and-both (leb 37 l && eqb ((l - 37) % 6) 0) (leb ((l - 37) / 6) 64) u in
+    let ab = and-both (leb 37 l) (eqb ((l - 37) % 6) 0) (abc .0) in
+    let a : 37 ≤ l = leb-true _ _ (ab .0) in
+    let b : (l - 37) % 6 ≡ 0 = eqb-true _ _ (ab .1) in
+    let c : (l - 37) / 6 ≤ 64 = leb-true _ _ (abc .1) in
+    record { least = a; messages = b; most = omega arith }
+
+length-most : (l : ℕ) → isRecordLength l ≡ true → l ≤ 421
+length-most l e = split (eqb l 0) (λ z. omega (arith, eqb-true l 0 z)) (λ z. length-whole l e (eqb-false l 0 z) .most)
+
+-- 37 + 6 × k is one exactly when k is at most 64
+pub length-is : (k : ℕ) → isRecordLength (37 + 6 * k) ≡ leb k 64
+unfolding isRecordLength
+length-is k =
+    let a : 37 ≤ 37 + 6 * k = omega arith in
+    let b : (37 + 6 * k - 37) % 6 ≡ 0 = omega arith in
+    let c : (37 + 6 * k - 37) / 6 ≡ k = omega arith in
+    rw (ne-eqb (37 + 6 * k) 0 (λ e. omega arith), le-leb 37 (37 + 6 * k) a, b, c)
+
+valid-length : (n s : ℕ) (x : Slot) → ValidSlot n s x → isRecordLength (length (recordBytes x)) ≡ true
+unfolding isRecordLength
+valid-length n s unused ok = refl
+valid-length n s (used t) ok = ap isRecordLength (task-length n s t ok) ∙ length-is (length (t .mailbox)) ∙ le-leb _ 64 (mailbox-64 (t .mailbox) (ok .mailbox))
+
+-- ---- bytes to slots and back
+
+pub record SlotInOrder (s n : ℕ) (b : List ℕ) : Type 0 where
+  pub two : 2 ≤ length b
+  pub size : isRecordLength (recordLength b) ≡ true
+  pub long : 2 + recordLength b ≤ length b
+  pub fields : recordNumber s n (slotOf (recordOf b)) ≡ 0
+
+pub slot-in-order : (s n : ℕ) (b : List ℕ) → slotNumber s n b ≡ 0 → SlotInOrder s n b
+unfolding slotNumber
+slot-in-order s n b e =
+    let e₂ = then-right (short 2 b) _ e in
+    let e₃ = then-right (unless (isRecordLength (recordLength b)) 8) _ e₂ in
+    record {
+      two = short-none 2 b (then-left _ _ e);
+      size = unless-none (isRecordLength (recordLength b)) 7 (then-left _ _ e₂);
+      long = short-none (2 + recordLength b) b (then-left _ _ e₃);
+      fields = then-right (short (2 + recordLength b) b) _ e₃;
+    }
+
+record-back : (r : List ℕ) → Bytes r → isRecordLength (length r) ≡ true → recordBytes (slotOf r) ≡ r
+record-back [] h e = refl
+record-back (x ∷ r) h e =
+    let w = length-whole (length (x ∷ r)) e (suc-ne-zero (length r)) in
+    task-back (x ∷ r) h (w .least) (w .messages)
+
+module _ (s n : ℕ) (b : List ℕ) (h : Bytes b) (ok : SlotInOrder s n b) where
+  recordOf-bytes : Bytes (recordOf b)
+  recordOf-bytes = bytes-take (recordLength b) (drop 2 b) (bytes-drop 2 b h)
+
+  recordOf-length : length (recordOf b) ≡ recordLength b
+  recordOf-length = length-take-le (recordLength b) (drop 2 b) (rw length-drop (omega (arith, ok .long)))
+
+  slot-back : slotBytes (slotOf (recordOf b)) ≡ take (2 + recordLength b) b
+  unfolding recordLength
+  slot-back =
+      let r : recordBytes (slotOf (recordOf b)) ≡ recordOf b = record-back (recordOf b) recordOf-bytes (rw recordOf-length (ok .size)) in
+      rw r (ap₂ (λ (x y : List ℕ). x ++ y) (ap (encodeNumber 2) recordOf-length ∙ encode-decode 2 b h (ok .two)) refl ∙ sym (take-add 2 (recordLength b) b))
+
+pub slots-back : (k s n : ℕ) (b : List ℕ) → Bytes b → slotsNumber k s n b ≡ 0 → slotsBytes (slotsOf k b) ++ skip k b ≡ b
+unfolding slotsBytes slotsOf skip slotsNumber
+slots-back zero s n b h e = refl
+slots-back (suc k) s n b h e =
+    let ok = slot-in-order s n b (then-left _ _ e) in
+    append-assoc (slotBytes (slotOf (recordOf b))) (slotsBytes (slotsOf k (behind b))) (skip k (behind b))
+    ∙ ap₂ (λ (x y : List ℕ). x ++ y) (slot-back s n b h ok) (slots-back k (s + 1) n (behind b) (bytes-drop (2 + recordLength b) b h) (then-right (slotNumber s n b) _ e))
+    ∙ take-append-drop (2 + recordLength b) b
+
+pub slots-valid : (k s n : ℕ) (b : List ℕ) → Bytes b → slotsNumber k s n b ≡ 0 → (i : ℕ) → ValidSlot n (s + i) (slotAt (slotsOf k b) i)
+unfolding slotsOf slotsNumber
+slots-valid zero s n b h e i = tt
+slots-valid (suc k) s n b h e zero =
+    let ok = slot-in-order s n b (then-left _ _ e) in
+    rw add-zero (record-valid s n (recordOf b) (recordOf-bytes s n b h ok) (ok .fields))
+slots-valid (suc k) s n b h e (suc i) =
+    let q : s + suc i ≡ s + 1 + i = omega arith in
+    rw q (slots-valid k (s + 1) n (behind b) (bytes-drop (2 + recordLength b) b h) (then-right (slotNumber s n b) _ e) i)
+
+pub length-slotsOf : (k : ℕ) (b : List ℕ) → length (slotsOf k b) ≡ k
+unfolding slotsOf
+length-slotsOf zero b = refl
+length-slotsOf (suc k) b = ap suc (length-slotsOf k (behind b))
+
+-- k slots take 2 to 423 bytes each
+pub slots-length : (k s n : ℕ) (b : List ℕ) → slotsNumber k s n b ≡ 0 → (2 * k + length (skip k b) ≤ length b) × (length b ≤ 423 * k + length (skip k b))
+unfolding skip slotsNumber
+slots-length zero s n b e = (omega arith, omega arith)
+slots-length (suc k) s n b e =
+    let ok = slot-in-order s n b (then-left _ _ e) in
+    let ih = slots-length k (s + 1) n (behind b) (then-right (slotNumber s n b) _ e) in
+    let l = length-drop (2 + recordLength b) b in
+    let m = length-most (recordLength b) (ok .size) in
+    (omega (arith, ok .long), omega (arith, ok .long))
+
+-- the record of slot i is the i-th slot's
+pub slot-at : (k i : ℕ) (b : List ℕ) → i < k → slotAt (slotsOf k b) i ≡ slotOf (recordOf (skip i b))
+unfolding slotsOf skip
+slot-at zero i b h = absurd (omega arith)
+slot-at (suc k) zero b h = refl
+slot-at (suc k) (suc i) b h = slot-at k i (behind b) (omega arith)
+
+-- ---- slots to bytes and back
+
+module _ (n s : ℕ) (x : Slot) (q : List ℕ) (few : n ≤ 256) (ok : ValidSlot n s x) where
+  length-low : length (recordBytes x) ≤ 421
+  length-low = length-most (length (recordBytes x)) (valid-length n s x ok)
+
+  front-length : recordLength (slotBytes x ++ q) ≡ length (recordBytes x)
+  unfolding recordLength
+  front-length = decode-encode 2 (length (recordBytes x)) (recordBytes x ++ q) (omega (arith, length-low))
+
+  front-record : recordOf (slotBytes x ++ q) ≡ recordBytes x
+  front-record = rw front-length (take-append-seam (recordBytes x) q)
+
+  front-behind : behind (slotBytes x ++ q) ≡ q
+  front-behind = rw front-length (sym (drop-drop (length (recordBytes x)) 2 (slotBytes x ++ q)) ∙ drop-append-seam (recordBytes x) q)
+
+  front-slot : slotOf (recordOf (slotBytes x ++ q)) ≡ x
+  front-slot = ap slotOf front-record ∙ slot-forth n s x few ok
+
+  front-number : slotNumber s n (slotBytes x ++ q) ≡ 0
+  unfolding slotNumber
+  front-number =
+      let m : 2 + length (recordBytes x) ≤ length (slotBytes x ++ q) = omega (arith, length-append (recordBytes x) q) in
+      rw (front-slot, front-length, long-enough 2 (slotBytes x ++ q) (omega arith), valid-length n s x ok, long-enough (2 + length (recordBytes x)) (slotBytes x ++ q) m)
+      (valid-record s n x ok)
+
+module _ (n : ℕ) (few : n ≤ 256) where
+  later : (s : ℕ) (x : Slot) (xs : List Slot) → ((i : ℕ) → ValidSlot n (s + i) (slotAt (x ∷ xs) i)) → (i : ℕ) → ValidSlot n (s + 1 + i) (slotAt xs i)
+  later s x xs ok i = let q : s + 1 + i ≡ s + suc i = omega arith in rw q (ok (suc i))
+
+  first : (s : ℕ) (x : Slot) (xs : List Slot) → ((i : ℕ) → ValidSlot n (s + i) (slotAt (x ∷ xs) i)) → ValidSlot n s x
+  first s x xs ok = rw add-zero at (ok 0)
+
+  pub slots-number : (s : ℕ) (xs : List Slot) → ((i : ℕ) → ValidSlot n (s + i) (slotAt xs i)) → slotsNumber (length xs) s n (slotsBytes xs) ≡ 0
+  unfolding slotsNumber slotsBytes
+  slots-number s [] ok = refl
+  slots-number s (x ∷ xs) ok =
+      then-none _ _ (front-number n s x (slotsBytes xs) few (first s x xs ok))
+      (ap (slotsNumber (length xs) (s + 1) n) (front-behind n s x (slotsBytes xs) few (first s x xs ok)) ∙ slots-number (s + 1) xs (later s x xs ok))
+
+  pub slots-forth : (s : ℕ) (xs : List Slot) → ((i : ℕ) → ValidSlot n (s + i) (slotAt xs i)) → slotsOf (length xs) (slotsBytes xs) ≡ xs
+  unfolding slotsOf slotsBytes
+  slots-forth s [] ok = refl
+  slots-forth s (x ∷ xs) ok =
+      ap₂ (λ (y : Slot) (ys : List Slot). y ∷ ys) (front-slot n s x (slotsBytes xs) few (first s x xs ok))
+      (ap (slotsOf (length xs)) (front-behind n s x (slotsBytes xs) few (first s x xs ok)) ∙ slots-forth (s + 1) xs (later s x xs ok))
+
+  pub slots-end : (s : ℕ) (xs : List Slot) → ((i : ℕ) → ValidSlot n (s + i) (slotAt xs i)) → skip (length xs) (slotsBytes xs) ≡ []
+  unfolding skip slotsBytes
+  slots-end s [] ok = refl
+  slots-end s (x ∷ xs) ok =
+      ap (skip (length xs)) (front-behind n s x (slotsBytes xs) few (first s x xs ok)) ∙ slots-end (s + 1) xs (later s x xs ok)
+
+  pub slots-bytes : (s : ℕ) (xs : List Slot) → ((i : ℕ) → ValidSlot n (s + i) (slotAt xs i)) → Bytes (slotsBytes xs)
+  unfolding slotsBytes
+  slots-bytes s [] ok = bytes-nil
+  slots-bytes s (x ∷ xs) ok =
+      let r = recordBytes x in
+      bytes-append (slotBytes x) (slotsBytes xs) (bytes-append (encodeNumber 2 (length r)) r (encode-bytes 2 (length r)) (record-bytes n s x (first s x xs ok)))
+      (slots-bytes (s + 1) xs (later s x xs ok))
+
+-- ---- the spare rule as a test and as a fact
+
+unused-is : (x : Slot) → isUnused x ≡ true → x ≡ unused
+unused-is unused e = refl
+unused-is (used t) e = cc
+
+module _ (ss : List Slot) where
+  pub spares-fact : length ss ≡ 16 → sparesUnused ss ≡ true → SparesUnused ss
+  unfolding sparesUnused
+  spares-fact n e s j lt le =
+      elim (decLt s 16) [
+        | yes h ↦
+            let inner = each-at 16 (λ s. each (spareOf (slotAt ss s)) (λ d. isUnused (slotAt ss (s + 1 + d)))) e s h in
+            let d : s + 1 + (j - s - 1) ≡ j = omega arith in
+            rw d at (unused-is (slotAt ss (s + 1 + (j - s - 1))) (each-at (spareOf (slotAt ss s)) (λ d. isUnused (slotAt ss (s + 1 + d))) inner (j - s - 1) (omega arith)))
+        | no h ↦ absurd (omega (arith, ap spareOf (List·getD-eq-default ss unused {n = s} (omega arith))))
+      ]
+
+  pub spares-test : SparesUnused ss → sparesUnused ss ≡ true
+  unfolding sparesUnused
+  spares-test h =
+      each-intro 16 (λ s. each (spareOf (slotAt ss s)) (λ d. isUnused (slotAt ss (s + 1 + d))))
+      (λ s l. each-intro (spareOf (slotAt ss s)) (λ d. isUnused (slotAt ss (s + 1 + d))) (λ d m. ap isUnused (h s (s + 1 + d) (omega arith) (omega arith))))

@@ -1,0 +1,124 @@
+-- The image: its number, front to back, the state in it, the state's bytes, and the part that holds a slot's record.
+use Prim.Native.Nat.{ℕ, zero, suc, _+_, _-_, _/_, _%_}
+use mathlib.Core.Bool.{Bool, cond, _&&_, _||_}
+use mathlib.Core.List.{List, [], _∷_, _++_}
+use lib.Dec.{leb, eqb}
+use lib.ListN.{length, getD, take, drop}
+use Rattle.wire.specs.Lists.{each}
+use Rattle.wire.specs.Numbers.{decodeNumber, encodeNumber}
+use Rattle.instruction.specs.Program.{count, allLegal}
+use Rattle.machine.specs.State.{Slot, State, slotAt, spareOf, isUnused}
+use Rattle.image.specs.Refusal.{_then_, unless, short}
+use Rattle.image.specs.Record.{mailboxAt, messageSize, slotOf, recordBytes, recordNumber}
+
+-- ---- the parts ahead of the slots: version (1), program length (2), program, turn slot (1)
+
+unfoldable pub programLength : List ℕ → ℕ
+programLength b = decodeNumber 2 (drop 1 b)
+
+abbrev pub programOf : List ℕ → List ℕ
+programOf b = take (programLength b) (drop 3 b)
+
+abbrev pub turnSlotOf : List ℕ → ℕ
+turnSlotOf b = getD b (3 + programLength b) 0
+
+-- the bytes from slot 0 on
+unfoldable pub slotsPart : List ℕ → List ℕ
+slotsPart b = drop (4 + programLength b) b
+
+-- 4 version
+unfoldable pub versionNumber : List ℕ → ℕ
+versionNumber b = short 1 b then unless (eqb (getD b 0 0) 1) 4
+
+-- a multiple of 4 from 4 to 1,024
+unfoldable pub isProgramLength : ℕ → Bool
+isProgramLength l = eqb (l % 4) 0 && leb 4 l && leb l 1024
+
+-- 5 program length, 6 instruction
+unfoldable pub programNumber : List ℕ → ℕ
+programNumber b =
+    short 3 b then unless (isProgramLength (programLength b)) 5 then short (3 + programLength b) b then unless (allLegal (programOf b)) 6
+
+-- 7 turn slot
+unfoldable pub turnSlotNumber : List ℕ → ℕ
+turnSlotNumber b = short (4 + programLength b) b then unless (leb (turnSlotOf b) 15) 7
+
+-- ---- the slots: a length (2) and a record of that length each
+
+-- the length of the record in front of b, the record, and the bytes behind it
+unfoldable pub recordLength : List ℕ → ℕ
+recordLength b = decodeNumber 2 b
+
+abbrev pub recordOf : List ℕ → List ℕ
+recordOf b = take (recordLength b) (drop 2 b)
+
+abbrev pub behind : List ℕ → List ℕ
+behind b = drop (2 + recordLength b) b
+
+-- the bytes behind k slots
+unfoldable pub skip : ℕ → List ℕ → List ℕ
+skip zero b = b
+skip (suc k) b = skip k (behind b)
+
+-- the first k slots
+unfoldable pub slotsOf : ℕ → List ℕ → List Slot
+slotsOf zero b = []
+slotsOf (suc k) b = slotOf (recordOf b) ∷ slotsOf k (behind b)
+
+-- 0 or 37 + 6 × k, k at most 64
+unfoldable pub isRecordLength : ℕ → Bool
+isRecordLength l = eqb l 0 || (leb mailboxAt l && eqb ((l - mailboxAt) % messageSize) 0 && leb ((l - mailboxAt) / messageSize) 64)
+
+-- slot s, in front of b: 8 record length, 3, then 9 and 10
+unfoldable pub slotNumber : ℕ → ℕ → List ℕ → ℕ
+slotNumber s n b =
+    short 2 b then unless (isRecordLength (recordLength b)) 8 then short (2 + recordLength b) b then recordNumber s n (slotOf (recordOf b))
+
+-- k slots from slot s on
+unfoldable pub slotsNumber : ℕ → ℕ → ℕ → List ℕ → ℕ
+slotsNumber zero s n b = 0
+slotsNumber (suc k) s n b = slotNumber s n b then slotsNumber k (s + 1) n (behind b)
+
+-- 11 tail: bytes after slot 15
+unfoldable pub tailNumber : List ℕ → ℕ
+tailNumber b = unless (eqb (length (skip 16 (slotsPart b))) 0) 11
+
+-- slots s+1 to s+k of each task in slot s with spare k are unused
+unfoldable pub sparesUnused : List Slot → Bool
+sparesUnused ss = each 16 (λ s. each (spareOf (slotAt ss s)) (λ d. isUnused (slotAt ss (s + 1 + d))))
+
+-- 12 estate: a used slot lies in another task's spare
+unfoldable pub spareNumber : List ℕ → ℕ
+spareNumber b = unless (sparesUnused (slotsOf 16 (slotsPart b))) 12
+
+-- ---- the whole image
+
+-- the number of an image: the first that is met, and 0 where it is accepted
+unfoldable pub imageNumber : List ℕ → ℕ
+imageNumber b =
+    versionNumber b
+    then programNumber b
+    then turnSlotNumber b
+    then slotsNumber 16 0 (count (programOf b)) (slotsPart b)
+    then tailNumber b
+    then spareNumber b
+
+-- the state in an accepted image
+unfoldable pub stateOf : List ℕ → State
+stateOf b = record { program = programOf b; turnSlot = turnSlotOf b; slots = slotsOf 16 (slotsPart b) }
+
+-- the record of a slot: no bytes for an unused slot, a slot number above 15 or a refused image
+unfoldable pub recordPart : List ℕ → ℕ → List ℕ
+recordPart b s = cond (leb s 15 && eqb (imageNumber b) 0) (recordOf (skip s (slotsPart b))) []
+
+-- ---- a state to bytes
+
+abbrev pub slotBytes : Slot → List ℕ
+slotBytes x = encodeNumber 2 (length (recordBytes x)) ++ recordBytes x
+
+unfoldable pub slotsBytes : List Slot → List ℕ
+slotsBytes [] = []
+slotsBytes (x ∷ xs) = slotBytes x ++ slotsBytes xs
+
+unfoldable pub imageBytes : State → List ℕ
+imageBytes s = 1 ∷ encodeNumber 2 (length (s .program)) ++ s .program ++ s .turnSlot ∷ slotsBytes (s .slots)

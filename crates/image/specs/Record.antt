@@ -1,0 +1,106 @@
+-- A slot's record: its layout, the task in it, the task's bytes, and the numbers 9 and 10.
+use Prim.Native.Nat.{ℕ, zero, suc, _+_, _*_, _-_, _/_}
+use mathlib.Core.Bool.{Bool, _&&_}
+use mathlib.Core.List.{List, [], _∷_, _++_}
+use lib.Dec.{leb}
+use lib.ListN.{length, getD, drop}
+use Rattle.wire.specs.Lists.{each, all}
+use Rattle.wire.specs.Numbers.{decodeNumber, encodeNumber}
+use Rattle.machine.specs.State.{Message, Task, Slot, unused, used}
+use Rattle.machine.specs.Turn.{ofLabel}
+use Rattle.image.specs.Refusal.{_then_, unless}
+
+-- ---- the layout: where each field begins, and the size of a message
+
+abbrev pub kindAt : ℕ
+kindAt = 0
+
+abbrev pub labelAt : ℕ
+labelAt = 1
+
+abbrev pub spareAt : ℕ
+spareAt = 2
+
+abbrev pub pcAt : ℕ
+pcAt = 3
+
+abbrev pub registersAt : ℕ
+registersAt = 5
+
+abbrev pub mailboxAt : ℕ
+mailboxAt = 37
+
+abbrev pub messageSize : ℕ
+messageSize = 6
+
+-- ---- bytes to a task
+
+-- label (1), sender (1), value (4)
+abbrev pub messageOf : List ℕ → Message
+messageOf b = record { label = getD b 0 0; sender = getD b 1 0; value = decodeNumber 4 (drop 2 b) }
+
+-- the first k messages of b
+unfoldable pub messagesOf : ℕ → List ℕ → List Message
+messagesOf zero b = []
+messagesOf (suc k) b = messageOf b ∷ messagesOf k (drop messageSize b)
+
+-- the first k words of b
+unfoldable pub wordsOf : ℕ → List ℕ → List ℕ
+wordsOf zero b = []
+wordsOf (suc k) b = decodeNumber 4 b ∷ wordsOf k (drop 4 b)
+
+-- kind (1), label (1), spare (1), place (2), registers 0 to 7 (4 each), and the messages
+abbrev pub taskOf : List ℕ → Task
+taskOf r =
+    record {
+      kind = getD r kindAt 0;
+      label = getD r labelAt 0;
+      spare = getD r spareAt 0;
+      pc = decodeNumber 2 (drop pcAt r);
+      registers = wordsOf 8 (drop registersAt r);
+      mailbox = messagesOf (length (drop mailboxAt r) / messageSize) (drop mailboxAt r);
+    }
+
+-- an unused slot has no record
+abbrev pub slotOf : List ℕ → Slot
+slotOf [] = unused
+slotOf (x ∷ r) = used (taskOf (x ∷ r))
+
+-- ---- a task to bytes
+
+abbrev pub messageBytes : Message → List ℕ
+messageBytes m = m .label ∷ m .sender ∷ encodeNumber 4 (m .value)
+
+unfoldable pub mailboxBytes : List Message → List ℕ
+mailboxBytes [] = []
+mailboxBytes (m ∷ ms) = messageBytes m ++ mailboxBytes ms
+
+unfoldable pub wordsBytes : List ℕ → List ℕ
+wordsBytes [] = []
+wordsBytes (x ∷ xs) = encodeNumber 4 x ++ wordsBytes xs
+
+abbrev pub taskBytes : Task → List ℕ
+taskBytes t = t .kind ∷ t .label ∷ t .spare ∷ encodeNumber 2 (t .pc) ++ wordsBytes (t .registers) ++ mailboxBytes (t .mailbox)
+
+abbrev pub recordBytes : Slot → List ℕ
+recordBytes unused = []
+recordBytes (used t) = taskBytes t
+
+-- ---- what is wrong with a task in slot s, with a program of n instructions
+
+-- kind, label and place in range, and s + spare at most 15
+abbrev pub fieldsInRange : ℕ → ℕ → Task → Bool
+fieldsInRange s n t = leb 1 (t .kind) && leb (t .kind) 5 && leb (t .label) 15 && leb (t .pc) n && leb (s + t .spare) 15
+
+-- message labels and senders at most 15
+abbrev pub addressed : Message → Bool
+addressed m = leb (m .label) 15 && leb (m .sender) 15
+
+-- and no five messages of one label
+abbrev pub mailInRange : List Message → Bool
+mailInRange ms = all addressed ms && each 16 (λ l. leb (length (ofLabel l ms)) 4)
+
+-- 9 task field, 10 mail
+abbrev pub recordNumber : ℕ → ℕ → Slot → ℕ
+recordNumber s n unused = 0
+recordNumber s n (used t) = unless (fieldsInRange s n t) 9 then unless (mailInRange (t .mailbox)) 10
