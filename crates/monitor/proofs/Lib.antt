@@ -1,0 +1,4 @@
+pub mod Calls
+pub mod Secrecy
+pub mod Claims
+pub mod Examples

@@ -1,0 +1,133 @@
+-- The secrecy rule: a list of turn calls comes to its sum of turns, and turns keep equal views equal.
+use Prim.Native.Nat.{ℕ, zero, suc, _+_, _≤_}
+use mathlib.Core.Path.{_≡_, refl, sym, ap, _∙_}
+use mathlib.Core.Bool.{Bool, true, false, cond}
+use mathlib.Core.List.{List, [], _∷_}
+use native.Mathlib.Omega.{arith}
+use borrow.Author.Tests.{le-leb, eqb-true}
+use lib.Dec.{leb, eqb}
+use lib.ListN.{length, take, replicate, length-replicate}
+use Rattle.wire.specs.Lists.{Bytes}
+use Rattle.wire.specs.Output.{over}
+use Rattle.wire.proofs.Lists.{split}
+use Rattle.wire.proofs.Output.{take-over}
+use Rattle.machine.specs.State.{State}
+use Rattle.machine.specs.Turn as Turn
+use Rattle.machine.specs.Valid.{Valid}
+use Rattle.machine.specs.Machine.{turns, view, busy}
+use Rattle.machine.proofs.Machine.{turns-valid, view-valid, turns-add, turns-same}
+use Rattle.label.specs.Label.{flows, join}
+use Rattle.image.specs.Refusal.{unless}
+use Rattle.image.specs.Image.{imageNumber, stateOf, imageBytes}
+use Rattle.image.proofs.Image.{accepted, accepted-valid, image-back, image-bytes, image-accepted, image-forth}
+use Rattle.monitor.specs.Calls.{callNumber, turnsBytes, turnsNumber, viewBytes, viewNumber, viewAnswer, viewOutput}
+use Rattle.monitor.specs.Claims.{Accepted, TurnCall, isAccepted, imageAfter, finalImage, turnsCarriedOut, EqualViews}
+use Rattle.monitor.proofs.Calls.{call-none, answer-number, call-written}
+
+-- ---- accepted images and valid states
+
+pub read-valid : (image : List ℕ) → Accepted image → Valid (stateOf image)
+read-valid image a = accepted-valid image (a .bytes) (accepted image (a .number))
+
+pub rewritten : (image : List ℕ) → Accepted image → imageBytes (stateOf image) ≡ image
+rewritten image a = image-back image (a .bytes) (accepted image (a .number))
+
+pub written-accepted : (s : State) → Valid s → Accepted (imageBytes s)
+written-accepted s ok = record { bytes = image-bytes s ok; number = image-accepted s ok }
+
+-- ---- equal views are equal bytes
+
+module _ (v : ℕ) (seen : v ≤ 15) where
+  observer-none : unless (leb v 15) 1 ≡ 0
+  observer-none = rw (le-leb v 15 seen)
+
+  -- the view call for v, given room, writes the view
+  view-shown : (image : List ℕ) → Accepted image → (out : List ℕ) → length (viewBytes v image) ≤ length out
+      → take (viewAnswer v image out .length) (viewOutput v image out) ≡ viewBytes v image
+  view-shown image a out room =
+      call-written (viewNumber v image out) (viewBytes v image) 0 out
+      ∙ rw (call-none (unless (leb v 15) 1) image (viewBytes v image) out observer-none (a .number) room)
+
+  module _ (image image′ : List ℕ) where
+    pub equal-bytes : EqualViews v image image′ → viewBytes v image ≡ viewBytes v image′
+    equal-bytes e =
+        let k = length (viewBytes v image) in
+        let k′ = length (viewBytes v image′) in
+        let out : List ℕ = replicate (k + k′) 0 in
+        let l = length-replicate {A = ℕ} (k + k′) 0 in
+        sym (view-shown image (e .left) out (omega arith)) ∙ e .written out out refl ∙ view-shown image′ (e .right) out (omega arith)
+
+    module _ (a : Accepted image) (a′ : Accepted image′) (e : viewBytes v image ≡ viewBytes v image′) where
+      number-same : (out out′ : List ℕ) → length out ≡ length out′ → viewNumber v image out ≡ viewNumber v image′ out′
+      unfolding callNumber
+      number-same out out′ h = rw (a .number, a′ .number, e, h)
+
+      pub equal-views : EqualViews v image image′
+      equal-views = record {
+        left = a;
+        right = a′;
+        told = λ out out′ h. rw (number-same out out′ h, e);
+        written = λ out out′ h.
+          call-written (viewNumber v image out) (viewBytes v image) 0 out
+          ∙ rw (number-same out out′ h, e) (sym (call-written (viewNumber v image′ out′) (viewBytes v image′) 0 out′));
+      }
+
+-- ---- a list of calls comes to its sum of turns
+
+-- the turns that one call carries out
+abbrev carriedOut : TurnCall → List ℕ → ℕ
+carriedOut c image = cond (isAccepted c image) (c .n) 0
+
+-- an accepted call leaves the image after its turns, and a refused one the image itself
+after-call : (c : TurnCall) (image : List ℕ) → Accepted image → imageAfter c image ≡ imageBytes (turns (carriedOut c image) (stateOf image))
+unfolding Turn.turns
+after-call c image a =
+    let number = turnsNumber (c .n) image (c .out) in
+    let bytes = turnsBytes (c .n) image in
+    let count = busy (c .n) (stateOf image) in
+    split (isAccepted c image)
+    (λ e. let z : number ≡ 0 = sym (answer-number number bytes count) ∙ eqb-true _ 0 e in rw e (call-written number bytes count (c .out) ∙ rw z))
+    (λ e. rw e (sym (rewritten image a)))
+
+pub after-calls : (cs : List TurnCall) (image : List ℕ) → Accepted image
+    → finalImage cs image ≡ imageBytes (turns (turnsCarriedOut cs image) (stateOf image))
+unfolding Turn.turns
+after-calls [] image a = sym (rewritten image a)
+after-calls (c ∷ cs) image a =
+    let m = carriedOut c image in
+    let s = stateOf image in
+    let ok = turns-valid m s (read-valid image a) in
+    let next : Accepted (imageAfter c image) = rw (after-call c image a) (written-accepted (turns m s) ok) in
+    let state : stateOf (imageAfter c image) ≡ turns m s = rw (after-call c image a) (image-forth (turns m s) ok) in
+    after-calls cs (imageAfter c image) next
+    ∙ ap imageBytes (ap (turns (turnsCarriedOut cs (imageAfter c image))) state ∙ sym (turns-add m (turnsCarriedOut cs (imageAfter c image)) s))
+
+-- ---- the rule
+
+module _ (v : ℕ) (seen : v ≤ 15) (image image′ : List ℕ) (e : EqualViews v image image′) where
+  -- the states show the observer the same
+  states-same : view v (stateOf image) ≡ view v (stateOf image′)
+  states-same =
+      let s = stateOf image in
+      let s′ = stateOf image′ in
+      sym (image-forth (view v s) (view-valid v s (read-valid image (e .left))))
+      ∙ ap stateOf (equal-bytes v seen image image′ e)
+      ∙ image-forth (view v s′) (view-valid v s′ (read-valid image′ (e .right)))
+
+  -- after the same number of turns they still do
+  pub turns-equal : (n : ℕ) → EqualViews v (imageBytes (turns n (stateOf image))) (imageBytes (turns n (stateOf image′)))
+  turns-equal n =
+      let s = stateOf image in
+      let s′ = stateOf image′ in
+      let ok = read-valid image (e .left) in
+      let ok′ = read-valid image′ (e .right) in
+      let t = turns-valid n s ok in
+      let t′ = turns-valid n s′ ok′ in
+      equal-views v seen (imageBytes (turns n s)) (imageBytes (turns n s′)) (written-accepted (turns n s) t) (written-accepted (turns n s′) t′)
+      (ap (λ (r : State). imageBytes (view v r)) (image-forth (turns n s) t)
+      ∙ ap imageBytes (turns-same v n s s′ ok ok′ states-same)
+      ∙ ap (λ (r : State). imageBytes (view v r)) (sym (image-forth (turns n s′) t′)))
+
+  pub secrecy : (calls calls′ : List TurnCall) → turnsCarriedOut calls image ≡ turnsCarriedOut calls′ image′
+      → EqualViews v (finalImage calls image) (finalImage calls′ image′)
+  secrecy calls calls′ n = rw (after-calls calls image (e .left), after-calls calls′ image′ (e .right), n) (turns-equal (turnsCarriedOut calls′ image′))

@@ -1,0 +1,1 @@
+-- The checked examples P1 to P9, as rows of one claim about the definitions.
