@@ -20,8 +20,8 @@ use Rattle.machine.specs.Valid.{ValidProgram, ValidSlot, Valid}
 use Rattle.image.specs.Refusal.{_then_, unless, short}
 use Rattle.image.specs.Record.{slotOf}
 use Rattle.image.specs.Image.{programLength, programOf, turnSlotOf, slotsPart, versionNumber, isProgramLength, programNumber, turnSlotNumber, recordOf, skip, slotsOf, slotsNumber, tailNumber, sparesUnused, spareNumber, imageNumber, stateOf, recordPart, slotsBytes, imageBytes}
-use Rattle.image.proofs.Refusal.{then-left, then-right, then-none, unless-none, short-none, long-enough}
-use Rattle.image.proofs.Slots.{slots-back, slots-valid, slots-length, length-slotsOf, slot-at, slots-number, slots-forth, slots-end, slots-bytes, spares-fact, spares-test}
+use Rattle.image.proofs.Refusal.{then-left, then-right, then-le, unless-le, short-le, unless-none, short-none}
+use Rattle.image.proofs.Slots.{slots-back, slots-valid, slots-length, slots-number-low, length-slotsOf, slot-at, slots-number, slots-forth, slots-end, slots-bytes, spares-fact, spares-test}
 
 program-length : (l : ℕ) → isProgramLength l ≡ true → (l % 4 ≡ 0) × (4 ≤ l) × (l ≤ 1024)
 unfolding isProgramLength
@@ -232,6 +232,28 @@ module _ (s : State) (ok : Valid s) where
         le-leb (4 + length (s .program)) (length (imageBytes s)) m,
         le-leb (s .turnSlot) 15 (ok .turnSlot),
       )
+
+-- ---- an image's number is one of the table
+
+head-numbers-low : (b : List ℕ) → (versionNumber b ≤ 12) × (programNumber b ≤ 12) × (turnSlotNumber b ≤ 12)
+unfolding versionNumber programNumber turnSlotNumber
+head-numbers-low b = (
+  then-le 12 (short 1 b) _ (short-le 12 1 b (omega arith)) (unless-le 12 (eqb (getD b 0 0) 1) 4 (omega arith)),
+  then-le 12 (short 3 b) _ (short-le 12 3 b (omega arith))
+      (then-le 12 (unless (isProgramLength (programLength b)) 5) _ (unless-le 12 (isProgramLength (programLength b)) 5 (omega arith))
+      (then-le 12 (short (3 + programLength b) b) _ (short-le 12 (3 + programLength b) b (omega arith)) (unless-le 12 (allLegal (programOf b)) 6 (omega arith)))),
+  then-le 12 (short (4 + programLength b) b) _ (short-le 12 (4 + programLength b) b (omega arith)) (unless-le 12 (leb (turnSlotOf b) 15) 7 (omega arith)),
+)
+
+pub image-number-low : (b : List ℕ) → imageNumber b ≤ 12
+unfolding imageNumber tailNumber spareNumber
+image-number-low b =
+    let h = head-numbers-low b in
+    then-le 12 (versionNumber b) _ (h .0)
+    (then-le 12 (programNumber b) _ (h .1)
+    (then-le 12 (turnSlotNumber b) _ (h .2)
+    (then-le 12 (slotsNumber 16 0 (count (programOf b)) (slotsPart b)) _ (slots-number-low 16 0 (count (programOf b)) (slotsPart b))
+    (then-le 12 (tailNumber b) _ (unless-le 12 (eqb (length (skip 16 (slotsPart b))) 0) 11 (omega arith)) (unless-le 12 (sparesUnused (slotsOf 16 (slotsPart b))) 12 (omega arith))))))
 
 -- ---- the part that holds a record
 

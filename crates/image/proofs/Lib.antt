@@ -2,3 +2,4 @@ pub mod Refusal
 pub mod Record
 pub mod Slots
 pub mod Image
+pub mod Examples

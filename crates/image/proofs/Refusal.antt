@@ -4,6 +4,7 @@ use mathlib.Core.Path.{_≡_, refl}
 use mathlib.Core.Bool.{Bool, true, false}
 use mathlib.Core.List.{List}
 use native.Mathlib.Nat.{suc-ne-zero}
+use native.Mathlib.Omega.{arith}
 use borrow.Author.Tests.{le-leb, leb-true}
 use lib.Dec.{leb}
 use lib.ListN.{length}
@@ -23,6 +24,21 @@ then-none x y e f = rw (e, f)
 pub then-stop : (x : ℕ) → (x ≡ 0 → ⊥) → (y : ℕ) → (x then y) ≡ x
 then-stop zero h y = absurd (h refl)
 then-stop (suc x) h y = refl
+
+-- ---- bounds
+
+pub then-le : (k x y : ℕ) → x ≤ k → y ≤ k → (x then y) ≤ k
+then-le k zero y h g = g
+then-le k (suc x) y h g = h
+
+pub unless-le : (k : ℕ) (t : Bool) (x : ℕ) → x ≤ k → unless t x ≤ k
+unless-le k true x h = omega arith
+unless-le k false x h = h
+
+pub short-le : (k n : ℕ) (b : List ℕ) → 3 ≤ k → short n b ≤ k
+short-le k n b h = unless-le k (leb n (length b)) 3 h
+
+-- ---- what no number says
 
 -- a test that gives no number passes
 pub unless-none : (t : Bool) (k : ℕ) → unless t (suc k) ≡ 0 → t ≡ true

@@ -18,9 +18,9 @@ use Rattle.machine.specs.State.{Task, Slot, unused, used, slotAt, isUnused, spa
 use Rattle.machine.specs.Valid.{ValidTask, ValidSlot, SparesUnused}
 use Rattle.machine.proofs.Mailbox.{mailbox-64}
 use Rattle.image.specs.Refusal.{_then_, unless, short}
-use Rattle.image.specs.Record.{taskOf, slotOf, recordBytes, recordNumber}
+use Rattle.image.specs.Record.{taskOf, slotOf, recordBytes, fieldsInRange, mailInRange, recordNumber}
 use Rattle.image.specs.Image.{recordLength, recordOf, behind, skip, slotsOf, isRecordLength, slotNumber, slotsNumber, sparesUnused, slotBytes, slotsBytes}
-use Rattle.image.proofs.Refusal.{then-left, then-right, then-none, unless-none, short-none, long-enough}
+use Rattle.image.proofs.Refusal.{then-left, then-right, then-none, then-le, unless-le, short-le, unless-none, short-none, long-enough}
 use Rattle.image.proofs.Record.{task-back, task-length, slot-forth, record-bytes, record-valid, valid-record}
 
 -- ---- lengths of records
@@ -139,6 +139,25 @@ unfolding slotsOf skip
 slot-at zero i b h = absurd (omega arith)
 slot-at (suc k) zero b h = refl
 slot-at (suc k) (suc i) b h = slot-at k i (behind b) (omega arith)
+
+-- ---- numbers
+
+record-number-low : (s n : ℕ) (x : Slot) → recordNumber s n x ≤ 12
+record-number-low s n unused = omega arith
+record-number-low s n (used t) = then-le 12 _ _ (unless-le 12 (fieldsInRange s n t) 9 (omega arith)) (unless-le 12 (mailInRange (t .mailbox)) 10 (omega arith))
+
+slot-number-low : (s n : ℕ) (b : List ℕ) → slotNumber s n b ≤ 12
+unfolding slotNumber
+slot-number-low s n b =
+    let l = recordLength b in
+    then-le 12 (short 2 b) _ (short-le 12 2 b (omega arith))
+    (then-le 12 (unless (isRecordLength l) 8) _ (unless-le 12 (isRecordLength l) 8 (omega arith))
+    (then-le 12 (short (2 + l) b) _ (short-le 12 (2 + l) b (omega arith)) (record-number-low s n (slotOf (recordOf b)))))
+
+pub slots-number-low : (k s n : ℕ) (b : List ℕ) → slotsNumber k s n b ≤ 12
+unfolding slotsNumber
+slots-number-low zero s n b = omega arith
+slots-number-low (suc k) s n b = then-le 12 (slotNumber s n b) _ (slot-number-low s n b) (slots-number-low k (s + 1) n (behind b))
 
 -- ---- slots to bytes and back
 

@@ -11,20 +11,30 @@ use Rattle.machine.specs.State.{Slot, State, slotAt, spareOf, isUnused}
 use Rattle.image.specs.Refusal.{_then_, unless, short}
 use Rattle.image.specs.Record.{mailboxAt, messageSize, slotOf, recordBytes, recordNumber}
 
--- ---- the parts ahead of the slots: version (1), program length (2), program, turn slot (1)
+-- ---- ahead of the slots: version (1), program length (2), program, turn slot (1)
 
 unfoldable pub programLength : List ℕ → ℕ
 programLength b = decodeNumber 2 (drop 1 b)
 
+-- where the program, the turn slot and slot 0 begin
+abbrev pub programAt : ℕ
+programAt = 3
+
+abbrev pub turnSlotAt : List ℕ → ℕ
+turnSlotAt b = 3 + programLength b
+
+abbrev pub slotsAt : List ℕ → ℕ
+slotsAt b = 4 + programLength b
+
 abbrev pub programOf : List ℕ → List ℕ
-programOf b = take (programLength b) (drop 3 b)
+programOf b = take (programLength b) (drop programAt b)
 
 abbrev pub turnSlotOf : List ℕ → ℕ
-turnSlotOf b = getD b (3 + programLength b) 0
+turnSlotOf b = getD b (turnSlotAt b) 0
 
 -- the bytes from slot 0 on
 unfoldable pub slotsPart : List ℕ → List ℕ
-slotsPart b = drop (4 + programLength b) b
+slotsPart b = drop (slotsAt b) b
 
 -- 4 version
 unfoldable pub versionNumber : List ℕ → ℕ
@@ -37,11 +47,14 @@ isProgramLength l = eqb (l % 4) 0 && leb 4 l && leb l 1024
 -- 5 program length, 6 instruction
 unfoldable pub programNumber : List ℕ → ℕ
 programNumber b =
-    short 3 b then unless (isProgramLength (programLength b)) 5 then short (3 + programLength b) b then unless (allLegal (programOf b)) 6
+    short programAt b
+    then unless (isProgramLength (programLength b)) 5
+    then short (turnSlotAt b) b
+    then unless (allLegal (programOf b)) 6
 
 -- 7 turn slot
 unfoldable pub turnSlotNumber : List ℕ → ℕ
-turnSlotNumber b = short (4 + programLength b) b then unless (leb (turnSlotOf b) 15) 7
+turnSlotNumber b = short (slotsAt b) b then unless (leb (turnSlotOf b) 15) 7
 
 -- ---- the slots: a length (2) and a record of that length each
 
@@ -72,7 +85,10 @@ isRecordLength l = eqb l 0 || (leb mailboxAt l && eqb ((l - mailboxAt) % message
 -- slot s, in front of b: 8 record length, 3, then 9 and 10
 unfoldable pub slotNumber : ℕ → ℕ → List ℕ → ℕ
 slotNumber s n b =
-    short 2 b then unless (isRecordLength (recordLength b)) 8 then short (2 + recordLength b) b then recordNumber s n (slotOf (recordOf b))
+    short 2 b
+    then unless (isRecordLength (recordLength b)) 8
+    then short (2 + recordLength b) b
+    then recordNumber s n (slotOf (recordOf b))
 
 -- k slots from slot s on
 unfoldable pub slotsNumber : ℕ → ℕ → ℕ → List ℕ → ℕ

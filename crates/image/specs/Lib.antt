@@ -1,3 +1,4 @@
 pub mod Refusal
 pub mod Record
 pub mod Image
+pub mod Examples

@@ -6,7 +6,7 @@ use lib.Dec.{leb}
 use lib.ListN.{length, getD, drop}
 use Rattle.wire.specs.Lists.{each, all}
 use Rattle.wire.specs.Numbers.{decodeNumber, encodeNumber}
-use Rattle.machine.specs.State.{Message, Task, Slot, unused, used}
+use Rattle.machine.specs.State.{lastSender, Message, Task, Slot, unused, used}
 use Rattle.machine.specs.Turn.{ofLabel}
 use Rattle.image.specs.Refusal.{_then_, unless}
 
@@ -92,9 +92,9 @@ recordBytes (used t) = taskBytes t
 abbrev pub fieldsInRange : ℕ → ℕ → Task → Bool
 fieldsInRange s n t = leb 1 (t .kind) && leb (t .kind) 5 && leb (t .label) 15 && leb (t .pc) n && leb (s + t .spare) 15
 
--- message labels and senders at most 15
+-- message label and sender in range
 abbrev pub addressed : Message → Bool
-addressed m = leb (m .label) 15 && leb (m .sender) 15
+addressed m = leb (m .label) 15 && leb (m .sender) lastSender
 
 -- and no five messages of one label
 abbrev pub mailInRange : List Message → Bool

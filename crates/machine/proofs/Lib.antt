@@ -5,3 +5,4 @@ pub mod View
 pub mod Valid
 pub mod Turn
 pub mod Machine
+pub mod Traps

@@ -49,7 +49,8 @@ module _ (flows : ℕ → ℕ → Bool) where
   abbrev pub oldest : Task → Option Message
   oldest t = head? (keep (receivable t) (t .mailbox))
 
-  -- take's effect on t where m is its oldest receivable message; `idle` where nothing is receivable
+  -- take's effect on t, whose oldest receivable message is given; `idle` where none is.
+  -- Register a is written first, so where a and b are the same b's figure stays
   abbrev pub taken : ℕ → ℕ → Task → Task → Option Message → Outcome
   taken a b idle t none = alone idle
   taken a b idle t (some m) =

@@ -6,12 +6,12 @@ use mathlib.Core.List.{List}
 use lib.ListN.{length}
 use Rattle.wire.specs.Lists.{Bytes, Every}
 use Rattle.instruction.specs.Program.{count, allLegal}
-use Rattle.machine.specs.State.{Message, Task, Slot, unused, used, State, slotAt, spareOf, register}
+use Rattle.machine.specs.State.{lastSender, Message, Task, Slot, unused, used, State, slotAt, spareOf, register}
 use Rattle.machine.specs.Turn.{ofLabel}
 
 pub record ValidMessage (m : Message) : Type 0 where
   pub label : m .label ≤ 15
-  pub sender : m .sender ≤ 15
+  pub sender : m .sender ≤ lastSender
   pub value : m .value < 2 ^ 32
 
 -- at most four messages of each label

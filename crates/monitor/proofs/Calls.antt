@@ -12,7 +12,8 @@ use Rattle.wire.proofs.Lists.{split}
 use Rattle.wire.proofs.Output.{take-over, drop-over, length-over}
 use Rattle.image.specs.Refusal.{_then_, unless}
 use Rattle.image.specs.Image.{imageNumber}
-use Rattle.image.proofs.Refusal.{then-left, then-right, then-none, unless-none}
+use Rattle.image.proofs.Refusal.{then-right, then-le, unless-le, unless-none}
+use Rattle.image.proofs.Image.{image-number-low}
 use Rattle.monitor.specs.declared.Answer.{Answer}
 use Rattle.monitor.specs.Calls.{callNumber, answer, output}
 use Rattle.monitor.specs.Claims.{WritesItsAnswer}
@@ -27,6 +28,12 @@ module _ (argument : ℕ) (image bytes out : List ℕ) where
   pub call-none : argument ≡ 0 → imageNumber image ≡ 0 → length bytes ≤ length out → callNumber argument image bytes out ≡ 0
   unfolding callNumber
   call-none e f h = rw (e, f, le-leb (length bytes) (length out) h)
+
+  pub call-listed : argument ≤ 13 → callNumber argument image bytes out ≤ 13
+  unfolding callNumber
+  call-listed h =
+      then-le 13 argument _ h
+      (then-le 13 (imageNumber image) _ (omega (arith, image-number-low image)) (unless-le 13 (leb (length bytes) (length out)) 13 (omega arith)))
 
 module _ (number : ℕ) (bytes : List ℕ) (busy : ℕ) where
   pub answer-number : answer number bytes busy .number ≡ number

@@ -68,8 +68,8 @@ module _ (v : ℕ) (seen : v ≤ 15) where
         right = a′;
         told = λ out out′ h. rw (number-same out out′ h, e);
         written = λ out out′ h.
-          call-written (viewNumber v image out) (viewBytes v image) 0 out
-          ∙ rw (number-same out out′ h, e) (sym (call-written (viewNumber v image′ out′) (viewBytes v image′) 0 out′));
+            call-written (viewNumber v image out) (viewBytes v image) 0 out
+            ∙ rw (number-same out out′ h, e) (sym (call-written (viewNumber v image′ out′) (viewBytes v image′) 0 out′));
       }
 
 -- ---- a list of calls comes to its sum of turns

@@ -10,12 +10,30 @@ use Rattle.machine.specs.State.{State}
 use Rattle.machine.specs.Valid.{Valid}
 use Rattle.image.specs.Image.{imageNumber, stateOf, imageBytes}
 use Rattle.monitor.specs.declared.Answer.{Answer}
-use Rattle.monitor.specs.Calls.{rewriteBytes, rewriteAnswer, rewriteOutput, turnsAnswer, turnsOutput, viewBytes, viewAnswer, viewOutput}
+use Rattle.monitor.specs.Calls.{rewriteBytes, rewriteNumber, rewriteAnswer, rewriteOutput, turnsNumber, turnsAnswer, turnsOutput, viewBytes, viewNumber, viewAnswer, viewOutput}
 
 -- an accepted image: bytes that have no number
 pub record Accepted (image : List ℕ) : Type 0 where
   pub bytes : Bytes image
   pub number : imageNumber image ≡ 0
+
+-- ---- what the calls tell and write, demand 1
+
+-- "Numbers a caller may receive": 0 and the thirteen of the table
+abbrev pub NumbersAreListed : Type 0
+NumbersAreListed =
+    (image out : List ℕ)
+    → (rewriteNumber image out ≤ 13)
+    × ((n : ℕ) → turnsNumber n image out ≤ 13)
+    × ((v : ℕ) → viewNumber v image out ≤ 13)
+
+-- "The first met is given; none of them in any other event." An output of 7,796 bytes is never too short
+abbrev pub OthersAreAccepted : Type 0
+OthersAreAccepted =
+    (image out : List ℕ) → Accepted image → 7796 ≤ length out
+    → (rewriteNumber image out ≡ 0)
+    × ((n : ℕ) → n ≤ 1000000 → turnsNumber n image out ≡ 0)
+    × ((v : ℕ) → v ≤ 15 → viewNumber v image out ≡ 0)
 
 -- "A refused call writes no byte and tells its number, length 0 and busy count 0"
 -- "An accepted call writes only the bytes of its answer."
@@ -30,6 +48,8 @@ CallsWriteTheirAnswer =
     → WritesItsAnswer (rewriteAnswer image out) out (rewriteOutput image out)
     × ((n : ℕ) → WritesItsAnswer (turnsAnswer n image out) out (turnsOutput n image out))
     × ((v : ℕ) → WritesItsAnswer (viewAnswer v image out) out (viewOutput v image out))
+
+-- ---- images, demand 2
 
 -- "The shortest image has 40 bytes, the longest 7,796."
 abbrev pub ImageLengths : Type 0

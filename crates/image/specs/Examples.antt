@@ -1,0 +1,55 @@
+-- Small images: the shortest and the longest, one for each number, and one with two faults that gets the first met.
+use Prim.Native.Nat.{ℕ, zero, suc}
+use mathlib.Core.Path.{_≡_}
+use mathlib.Core.List.{List, [], _∷_, _++_}
+use lib.ListN.{length, set, take, replicate}
+use Rattle.machine.specs.State.{Message, Task, Slot, unused, used, State}
+use Rattle.image.specs.Image.{imageNumber, imageBytes}
+
+abbrev pub task : ℕ → List Message → Task
+task spare mailbox = record { kind = 1; label = 0; spare = spare; pc = 0; registers = replicate 8 0; mailbox = mailbox }
+
+abbrev pub message : ℕ → Message
+message label = record { label = label; sender = 0; value = 0 }
+
+-- the image of these slots, with `end` as its program
+abbrev pub image : List Slot → List ℕ
+image slots = imageBytes (record { program = 0 ∷ 0 ∷ 0 ∷ 0 ∷ []; turnSlot = 0; slots = slots })
+
+abbrev pub none : List Slot
+none = replicate 16 unused
+
+-- slot 3 is used
+abbrev pub third : Task → List Slot
+third t = set none 3 (used t)
+
+-- four messages of each label below n
+abbrev pub fours : ℕ → List Message
+fours zero = []
+fours (suc n) = replicate 4 (message n) ++ fours n
+
+-- 256 instructions and sixteen tasks of 64 messages
+abbrev pub longest : List ℕ
+longest = imageBytes (record { program = replicate 1024 0; turnSlot = 0; slots = replicate 16 (used (task 0 (fours 16))) })
+
+pub record Examples : Type 0 where
+  -- "The shortest image has 40 bytes"
+  pub shortest : (imageNumber (image none) ≡ 0) × (length (image none) ≡ 40)
+  -- "the longest 7,796"
+  pub full : (imageNumber longest ≡ 0) × (length longest ≡ 7796)
+  -- 3 to 8 and 11, in the shortest image
+  pub short : imageNumber (take 39 (image none)) ≡ 3
+  pub version : imageNumber (set (image none) 0 2) ≡ 4
+  pub programLength : imageNumber (set (image none) 2 6) ≡ 5
+  pub instruction : imageNumber (set (image none) 3 0x0D) ≡ 6
+  pub turnSlot : imageNumber (set (image none) 7 16) ≡ 7
+  pub recordLength : imageNumber (set (image none) 9 36) ≡ 8
+  pub tail : imageNumber (image none ++ (0 ∷ [])) ≡ 11
+  -- "4 messages of one label accepted, 5 refused with 10."
+  pub mail : (imageNumber (image (third (task 0 (replicate 4 (message 2))))) ≡ 0) × (imageNumber (image (third (task 0 (replicate 5 (message 2))))) ≡ 10)
+  -- "Spare 12 in slot 3 accepted, 13 refused with 9."
+  pub spare : (imageNumber (image (third (task 12 []))) ≡ 0) × (imageNumber (image (third (task 13 []))) ≡ 9)
+  -- "Slot 3 with spare 2: slot 5 used gives 12, slot 6 used is accepted."
+  pub estate : (imageNumber (image (set (third (task 2 [])) 5 (used (task 0 [])))) ≡ 12) × (imageNumber (image (set (third (task 2 [])) 6 (used (task 0 [])))) ≡ 0)
+  -- 11 ahead of 12
+  pub order : imageNumber (image (set (third (task 2 [])) 5 (used (task 0 []))) ++ (0 ∷ [])) ≡ 11

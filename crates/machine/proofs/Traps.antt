@@ -1,0 +1,53 @@
+-- 01's traps of this trade, and two more: a state each on which a machine that falls into the trap breaks the view law.
+-- Rows by computation, for an observer from whom the named task or message is hidden.
+use Prim.Native.Nat.{ℕ}
+use mathlib.Core.Path.{_≡_, refl}
+use mathlib.Core.List.{List, [], _∷_}
+use lib.ListN.{set, replicate}
+use Rattle.wire.specs.Lists as Lists
+use Rattle.label.specs.Label as Label
+use Rattle.instruction.specs.Table as Table
+use Rattle.instruction.specs.Program as Program
+use Rattle.machine.specs.State.{Message, Task, Slot, unused, used, State, withMailbox, withRegister}
+use Rattle.machine.specs.Effect as Effect
+use Rattle.machine.specs.Turn as Turn
+use Rattle.machine.specs.View as View
+use Rattle.machine.specs.Machine.{turns, view}
+
+-- a turn of the view shows what the turn shows
+abbrev ShownAlike : ℕ → State → Type 0
+ShownAlike v s = view v (turns 1 (view v s)) ≡ view v (turns 1 s)
+
+-- a live task at place 0 whose registers hold their numbers
+abbrev task : ℕ → ℕ → Task
+task label spare = record { kind = 1; label = label; spare = spare; pc = 0; registers = 0 ∷ 1 ∷ 2 ∷ 3 ∷ 4 ∷ 5 ∷ 6 ∷ 7 ∷ []; mailbox = [] }
+
+abbrev message : ℕ → Message
+message label = record { label = label; sender = 9; value = 7 }
+
+-- the instruction, the task t in slot s, whose turn it is, and another task
+abbrev state : List ℕ → ℕ → Task → ℕ → Task → State
+state instruction s t s′ t′ = record { program = instruction; turnSlot = s; slots = set (set (replicate 16 unused) s (used t)) s′ (used t′) }
+
+abbrev send : ℕ → List ℕ
+send label = 0x08 ∷ 1 ∷ label ∷ 2 ∷ []
+
+pub record Traps : Type 0 where
+  -- one common mailbox limit: four hidden messages wait, and a public one comes
+  pub limit : ShownAlike 0 (state (send 0) 0 (task 0 0) 1 (withMailbox (replicate 4 (message 1)) (task 0 0)))
+  -- a sender that learns of its receiver: the receiver is hidden
+  pub told : ShownAlike 0 (state (send 1) 0 (task 0 0) 1 (task 1 0))
+  -- a child in the lowest unused slot: a hidden task stands in slot 0
+  pub child : ShownAlike 0 (state (0x0B ∷ 0 ∷ 0 ∷ 2 ∷ []) 5 (task 0 4) 0 (task 1 0))
+  -- slots without a live task skipped: the next live task is hidden
+  pub skipped : ShownAlike 0 (state (0x01 ∷ 0 ∷ 0 ∷ 0 ∷ []) 0 (task 0 0) 1 (task 1 0))
+  -- the oldest message taken and its label tested then: the oldest is hidden
+  pub oldest : ShownAlike 0 (state (0x09 ∷ 0 ∷ 1 ∷ 0 ∷ []) 0 (withMailbox (message 1 ∷ message 0 ∷ []) (task 0 0)) 1 (task 1 0))
+  -- a send that skips its label check: the sender is hidden
+  pub unchecked : ShownAlike 0 (state (send 0) 0 (task 1 0) 1 (task 0 0))
+  -- a raise that replaces the label: the task is hidden from the observer of label 2
+  pub replaced : ShownAlike 2 (state (0x07 ∷ 2 ∷ 0 ∷ 0 ∷ []) 0 (task 1 0) 1 (task 0 0))
+
+pub traps : Traps
+unfolding Lists.each Label.flows Table.decode Program.instructionAt Effect.execute Effect.outcome Turn.turn Turn.turns View.view
+traps = record { limit = refl; told = refl; child = refl; skipped = refl; oldest = refl; unchecked = refl; replaced = refl }
