@@ -1,27 +1,27 @@
 -- The round trips of an image: accepted bytes give a valid state that is written as they were, and a valid state's
 -- bytes are accepted and give it back; the lengths of an image; the part of a record.
-use Prim.Native.Nat.{ℕ, zero, suc, _+_, _*_, _-_, _/_, _%_, _^_, _<_, _≤_}
+use Prim.Native.Nat.{ℕ, suc, _+_, _%_, _≤_}
 use mathlib.Core.Path.{_≡_, refl, sym, ap, ap₂, _∙_}
-use mathlib.Core.Bool.{Bool, true, false, _&&_}
-use mathlib.Core.List.{List, [], _∷_, _++_, append-assoc, append-nil}
+use mathlib.Core.Bool.{true, _&&_, and-false}
+use mathlib.Core.List.{List, [], _∷_, _++_, append-nil}
 use native.Mathlib.Nat.{zero-add, not-suc-le-zero, le-of-suc-le-suc}
 use native.Mathlib.Omega.{arith}
-use borrow.Author.Tests.{leb-true, le-leb, eqb-true, eq-eqb}
+use borrow.Author.Tests.{leb-true, le-leb, eqb-true, eq-eqb, ne-eqb}
 use lib.Dec.{leb, eqb}
 use lib.ListN.{length, getD, take, drop, length-append, length-drop, take-append-drop}
 use lib.Seq.{take-add, length-take-le, take-append-seam, drop-append-seam, getD-append-seam, getD-drop, drop-drop, drop-cons}
 use Rattle.wire.specs.Lists.{Bytes}
 use Rattle.wire.specs.Numbers.{decodeNumber, encodeNumber}
-use Rattle.wire.proofs.Lists.{and-both, length-nil, bytes-take, bytes-drop, bytes-append, bytes-cons}
+use Rattle.wire.proofs.Lists.{split, and-both, length-nil, take-length-take, bytes-take, bytes-drop, bytes-append, bytes-cons}
 use Rattle.wire.proofs.Numbers.{encode-decode, decode-encode, encode-bytes}
 use Rattle.instruction.specs.Program.{count, allLegal}
-use Rattle.machine.specs.State.{Slot, State, slotAt}
-use Rattle.machine.specs.Valid.{ValidProgram, ValidSlot, Valid}
-use Rattle.image.specs.Refusal.{_then_, unless, short}
-use Rattle.image.specs.Record.{slotOf}
-use Rattle.image.specs.Image.{programLength, programOf, turnSlotOf, slotsPart, versionNumber, isProgramLength, programNumber, turnSlotNumber, recordOf, skip, slotsOf, slotsNumber, tailNumber, sparesUnused, spareNumber, imageNumber, stateOf, recordPart, slotsBytes, imageBytes}
+use Rattle.machine.specs.State.{State, slotAt}
+use Rattle.machine.specs.Valid.{ValidSlot, Valid}
+use Rattle.image.specs.Refusal.{unless, short}
+use Rattle.image.specs.Record.{recordBytes}
+use Rattle.image.specs.Image.{programLength, programOf, turnSlotOf, slotsPart, versionNumber, isProgramLength, programNumber, turnSlotNumber, recordLength, skip, slotsOf, slotsNumber, tailNumber, sparesUnused, spareNumber, imageNumber, stateOf, recordPart, slotsBytes, imageBytes}
 use Rattle.image.proofs.Refusal.{then-left, then-right, then-le, unless-le, short-le, unless-none, short-none}
-use Rattle.image.proofs.Slots.{slots-back, slots-valid, slots-length, slots-number-low, length-slotsOf, slot-at, slots-number, slots-forth, slots-end, slots-bytes, spares-fact, spares-test}
+use Rattle.image.proofs.Slots.{slots-back, slots-valid, slots-length, slots-number-low, length-slotsOf, slot-at, skip-drop, record-at, slots-number, slots-forth, slots-end, slots-bytes, spares-fact, spares-test}
 
 program-length : (l : ℕ) → isProgramLength l ≡ true → (l % 4 ≡ 0) × (4 ≤ l) × (l ≤ 1024)
 unfolding isProgramLength
@@ -257,7 +257,29 @@ image-number-low b =
 
 -- ---- the part that holds a record
 
--- it is the slot of the image's state
-pub record-part : (b : List ℕ) (s : ℕ) → imageNumber b ≡ 0 → s ≤ 15 → slotOf (recordPart b s) ≡ slotAt (stateOf b .slots) s
-unfolding recordPart stateOf
-record-part b s e h = rw (le-leb s 15 h, e) (sym (slot-at 16 s (slotsPart b) (omega arith)))
+-- it is what the slot's task is written as
+pub record-part : (b : List ℕ) (s : ℕ) → Bytes b → imageNumber b ≡ 0 → s ≤ 15 → recordPart b s ≡ recordBytes (slotAt (stateOf b .slots) s)
+unfolding recordPart stateOf slotsPart
+record-part b s h e l =
+    rw (le-leb s 15 l, e, slot-at 16 s (slotsPart b) (omega arith))
+    (sym (record-at 16 s 0 (count (programOf b)) (slotsPart b) (bytes-drop (4 + programLength b) b h) (accepted b e .slots) (omega arith)))
+
+-- a slot above 15 has none, nor has a refused image
+pub record-above : (b : List ℕ) (s : ℕ) → (s ≤ 15 → ⊥) → recordPart b s ≡ []
+unfolding recordPart
+record-above b s h = split (leb s 15) (λ e. absurd (h (leb-true s 15 e))) (λ e. rw e)
+
+pub record-refused : (b : List ℕ) (s : ℕ) → (imageNumber b ≡ 0 → ⊥) → recordPart b s ≡ []
+unfolding recordPart
+record-refused b s h = rw (ne-eqb (imageNumber b) 0 h, and-false)
+
+-- and it stands in the image
+pub record-inside : (b : List ℕ) (s : ℕ) → (start : ℕ) × (recordPart b s ≡ take (length (recordPart b s)) (drop start b))
+unfolding recordPart slotsPart
+record-inside b s =
+    let k = skip-drop s (drop (4 + programLength b) b) in
+    let at : drop 2 (skip s (drop (4 + programLength b) b)) ≡ drop (4 + programLength b + k .0 + 2) b
+    = ap (drop 2) (k .1 ∙ drop-drop (k .0) (4 + programLength b) b) ∙ drop-drop 2 (4 + programLength b + k .0) b in
+    split (leb s 15 && eqb (imageNumber b) 0)
+    (λ e. (4 + programLength b + k .0 + 2, rw (e, ← at) (take-length-take (recordLength (skip s (drop (4 + programLength b) b))) (drop 2 (skip s (drop (4 + programLength b) b))))))
+    (λ e. (0, rw e))

@@ -1,7 +1,7 @@
 -- Records to tasks and back, tasks to records and back, and what the numbers 9 and 10 leave: valid tasks.
 use Prim.Native.Nat.{ℕ, zero, suc, _+_, _*_, _-_, _/_, _%_, _^_, _<_, _≤_}
 use mathlib.Core.Path.{_≡_, refl, sym, ap, ap₂, _∙_}
-use mathlib.Core.Bool.{Bool, true, _&&_}
+use mathlib.Core.Bool.{true, _&&_}
 use mathlib.Core.List.{List, [], _∷_, _++_}
 use native.Mathlib.Nat.{not-suc-le-zero, le-of-suc-le-suc}
 use native.Mathlib.Omega.{arith}
@@ -10,15 +10,15 @@ use lib.Dec.{leb}
 use lib.ListN.{length, getD, take, drop, length-append, length-drop, take-append-drop}
 use lib.Seq.{take-add, take-all, drop-at}
 use Rattle.wire.specs.Lists.{Bytes, Every, each, all}
-use Rattle.wire.specs.Numbers.{decodeNumber, encodeNumber}
+use Rattle.wire.specs.Numbers.{encodeNumber}
 use Rattle.wire.proofs.Lists.{and-both, and-intro, each-intro, each-at, every-all, bytes-drop, bytes-append, bytes-cons, bytes-nil}
 use Rattle.wire.proofs.Numbers.{encode-decode, decode-encode, decode-lt, encode-bytes}
 use Rattle.machine.specs.State.{Message, Task, Slot, unused, used}
 use Rattle.machine.specs.Turn.{ofLabel}
 use Rattle.machine.specs.Valid.{ValidMessage, ValidMailbox, ValidTask, ValidSlot}
-use Rattle.image.specs.Refusal.{_then_, unless}
+use Rattle.image.specs.Refusal.{unless}
 use Rattle.image.specs.Record.{messageOf, messagesOf, wordsOf, taskOf, slotOf, messageBytes, mailboxBytes, wordsBytes, taskBytes, recordBytes, fieldsInRange, addressed, mailInRange, recordNumber}
-use Rattle.image.proofs.Refusal.{then-left, then-right, then-none, unless-none}
+use Rattle.image.proofs.Refusal.{then-left, then-right, unless-none}
 
 -- ---- bytes to a task and back
 

@@ -21,10 +21,6 @@ then-right (suc x) y e = absurd (suc-ne-zero x e)
 pub then-none : (x y : ℕ) → x ≡ 0 → y ≡ 0 → (x then y) ≡ 0
 then-none x y e f = rw (e, f)
 
-pub then-stop : (x : ℕ) → (x ≡ 0 → ⊥) → (y : ℕ) → (x then y) ≡ x
-then-stop zero h y = absurd (h refl)
-then-stop (suc x) h y = refl
-
 -- ---- bounds
 
 pub then-le : (k x y : ℕ) → x ≤ k → y ≤ k → (x then y) ≤ k

@@ -1,24 +1,24 @@
 -- The slots of an image, one after another: bytes to slots and back, slots to bytes and back, lengths, and the spare rule.
-use Prim.Native.Nat.{ℕ, zero, suc, _+_, _*_, _-_, _/_, _%_, _^_, _<_, _≤_}
+use Prim.Native.Nat.{ℕ, zero, suc, _+_, _*_, _-_, _/_, _%_, _<_, _≤_}
 use mathlib.Core.Path.{_≡_, refl, sym, ap, ap₂, _∙_}
-use mathlib.Core.Bool.{Bool, true, false, _&&_, _||_}
-use mathlib.Core.List.{List, [], _∷_, _++_, append-assoc, append-nil}
+use mathlib.Core.Bool.{true, _&&_}
+use mathlib.Core.List.{List, [], _∷_, _++_, append-assoc}
 use native.Mathlib.Nat.{add-zero, suc-ne-zero}
 use native.Mathlib.Decide.{decLt}
 use native.Mathlib.Omega.{arith}
-use borrow.Author.Tests.{leb-true, le-leb, eqb-true, eqb-false, eq-eqb, ne-eqb}
+use borrow.Author.Tests.{leb-true, le-leb, eqb-true, eqb-false, ne-eqb}
 use lib.Dec.{leb, eqb}
-use lib.ListN.{length, getD, take, drop, length-append, length-drop, take-append-drop, List·getD-eq-default}
+use lib.ListN.{length, take, drop, length-append, length-drop, take-append-drop, List·getD-eq-default}
 use lib.Seq.{take-add, length-take-le, take-append-seam, drop-append-seam, drop-drop}
 use Rattle.wire.specs.Lists.{Bytes, each}
-use Rattle.wire.specs.Numbers.{decodeNumber, encodeNumber}
+use Rattle.wire.specs.Numbers.{encodeNumber}
 use Rattle.wire.proofs.Lists.{split, and-both, each-intro, each-at, bytes-take, bytes-drop, bytes-append, bytes-nil}
-use Rattle.wire.proofs.Numbers.{encode-decode, decode-encode, length-encode, encode-bytes}
-use Rattle.machine.specs.State.{Task, Slot, unused, used, slotAt, isUnused, spareOf}
-use Rattle.machine.specs.Valid.{ValidTask, ValidSlot, SparesUnused}
+use Rattle.wire.proofs.Numbers.{encode-decode, decode-encode, encode-bytes}
+use Rattle.machine.specs.State.{Slot, unused, used, slotAt, isUnused, spareOf}
+use Rattle.machine.specs.Valid.{ValidSlot, SparesUnused}
 use Rattle.machine.proofs.Mailbox.{mailbox-64}
-use Rattle.image.specs.Refusal.{_then_, unless, short}
-use Rattle.image.specs.Record.{taskOf, slotOf, recordBytes, fieldsInRange, mailInRange, recordNumber}
+use Rattle.image.specs.Refusal.{unless, short}
+use Rattle.image.specs.Record.{slotOf, recordBytes, fieldsInRange, mailInRange, recordNumber}
 use Rattle.image.specs.Image.{recordLength, recordOf, behind, skip, slotsOf, isRecordLength, slotNumber, slotsNumber, sparesUnused, slotBytes, slotsBytes}
 use Rattle.image.proofs.Refusal.{then-left, then-right, then-none, then-le, unless-le, short-le, unless-none, short-none, long-enough}
 use Rattle.image.proofs.Record.{task-back, task-length, slot-forth, record-bytes, record-valid, valid-record}
@@ -133,12 +133,31 @@ slots-length (suc k) s n b e =
     let m = length-most (recordLength b) (ok .size) in
     (omega (arith, ok .long), omega (arith, ok .long))
 
--- the record of slot i is the i-th slot's
+-- ---- the record of slot i
+
 pub slot-at : (k i : ℕ) (b : List ℕ) → i < k → slotAt (slotsOf k b) i ≡ slotOf (recordOf (skip i b))
 unfolding slotsOf skip
 slot-at zero i b h = absurd (omega arith)
 slot-at (suc k) zero b h = refl
 slot-at (suc k) (suc i) b h = slot-at k i (behind b) (omega arith)
+
+-- it is a part of the bytes
+pub skip-drop : (k : ℕ) (b : List ℕ) → (start : ℕ) × (skip k b ≡ drop start b)
+unfolding skip
+skip-drop zero b = (0, refl)
+skip-drop (suc k) b =
+    let ih = skip-drop k (behind b) in
+    (2 + recordLength b + ih .0, ih .1 ∙ drop-drop (ih .0) (2 + recordLength b) b)
+
+-- and what the slot's task is written as
+pub record-at : (k i s n : ℕ) (b : List ℕ) → Bytes b → slotsNumber k s n b ≡ 0 → i < k → recordBytes (slotOf (recordOf (skip i b))) ≡ recordOf (skip i b)
+unfolding skip slotsNumber
+record-at zero i s n b h e l = absurd (omega arith)
+record-at (suc k) zero s n b h e l =
+    let ok = slot-in-order s n b (then-left _ _ e) in
+    record-back (recordOf b) (recordOf-bytes s n b h ok) (rw (recordOf-length s n b h ok) (ok .size))
+record-at (suc k) (suc i) s n b h e l =
+    record-at k i (s + 1) n (behind b) (bytes-drop (2 + recordLength b) b h) (then-right (slotNumber s n b) _ e) (omega arith)
 
 -- ---- numbers
 

@@ -3,7 +3,7 @@ use Prim.Native.Nat.{ℕ, zero, suc}
 use mathlib.Core.Path.{_≡_}
 use mathlib.Core.List.{List, [], _∷_, _++_}
 use lib.ListN.{length, set, take, replicate}
-use Rattle.machine.specs.State.{Message, Task, Slot, unused, used, State}
+use Rattle.machine.specs.State.{Message, Task, Slot, unused, used}
 use Rattle.image.specs.Image.{imageNumber, imageBytes}
 
 abbrev pub task : ℕ → List Message → Task

@@ -1,7 +1,7 @@
 -- Laws of a program's bytes: an instruction within it, past its end, and what a legal program says of each.
 use Prim.Native.Nat.{ℕ, _+_, _*_, _≤_, _<_}
-use mathlib.Core.Path.{_≡_, refl}
-use mathlib.Core.Bool.{true, false}
+use mathlib.Core.Path.{_≡_}
+use mathlib.Core.Bool.{true}
 use mathlib.Core.List.{List, [], _∷_}
 use native.Mathlib.Omega.{arith}
 use borrow.Author.Tests.{lt-ltb, le-ltb, ltb-true, ltb-false}
@@ -10,7 +10,6 @@ use lib.ListN.{getD}
 use Rattle.wire.specs.Lists.{Bytes}
 use Rattle.wire.proofs.Lists.{split, each-at, bytes-cons, bytes-nil}
 use Rattle.instruction.specs.declared.Instruction.{Instruction}
-use Rattle.instruction.specs.declared.Decoded.{Decoded}
 use Rattle.instruction.specs.declared.Decoded.the-variants.{Legal, Illegal}
 use Rattle.instruction.specs.Table.{decode, encode}
 use Rattle.instruction.specs.Program.{count, instructionAt, isLegal, allLegal}

@@ -1,11 +1,11 @@
 -- The order laws: labels under `flows` and `join`.
-use Prim.Native.Nat.{ℕ, _/_, _%_, _^_, _<_, _≤_, min, max}
-use mathlib.Core.Path.{_≡_, refl, sym, ap, _∙_}
-use mathlib.Core.Bool.{Bool, true, _&&_}
+use Prim.Native.Nat.{ℕ, _<_, _≤_, max}
+use mathlib.Core.Path.{_≡_, refl}
+use mathlib.Core.Bool.{Bool, true}
 use native.Mathlib.Omega.{arith}
 use borrow.Author.Tests.{le-leb, leb-true}
 use lib.Dec.{leb}
-use lib.Bits.{bitAnd, bitOr, or-lt, or-shr, or-step}
+use lib.Bits.{or-lt, or-shr, or-step}
 use Rattle.wire.specs.Lists.{each}
 use Rattle.wire.proofs.Lists.{each-intro, each-at}
 use Rattle.label.specs.Label.{bit, flows, join}

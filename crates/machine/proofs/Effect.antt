@@ -1,14 +1,13 @@
 -- Laws of one task's outcome. A task that an observer sees does the same with its hidden messages left out (`outcome-view`);
 -- whatever a task does goes to labels that its own flows to, and to slots of its own spare (`outcome-contained`).
-use Prim.Native.Nat.{ℕ, suc, _+_, _-_, _≤_, _<_}
-use mathlib.Core.Path.{_≡_, refl, sym, ap, _∙_}
-use mathlib.Core.Bool.{Bool, true, false, cond}
+use Prim.Native.Nat.{ℕ, suc, _+_, _≤_}
+use mathlib.Core.Path.{_≡_, refl}
+use mathlib.Core.Bool.{Bool, true}
 use mathlib.Core.Option.{Option, none, some}
-use mathlib.Core.List.{List, [], _∷_}
+use mathlib.Core.List.{List}
 use native.Mathlib.Omega.{arith}
 use borrow.Author.Tests.{leb-true}
 use lib.Dec.{leb, eqb}
-use Rattle.wire.specs.Lists.{keep, dropFirst}
 use Rattle.wire.proofs.Lists.{split, keep-keep, dropFirst-keep}
 use Rattle.label.proofs.Order.{Order, DownClosed}
 use Rattle.instruction.specs.declared.Instruction.{Instruction}

@@ -8,7 +8,7 @@ use Rattle.wire.specs.Lists as Lists
 use Rattle.label.specs.Label as Label
 use Rattle.instruction.specs.Table as Table
 use Rattle.instruction.specs.Program as Program
-use Rattle.machine.specs.State.{Message, Task, Slot, unused, used, State, withMailbox, withRegister}
+use Rattle.machine.specs.State.{Message, Task, unused, used, State, withMailbox}
 use Rattle.machine.specs.Effect as Effect
 use Rattle.machine.specs.Turn as Turn
 use Rattle.machine.specs.View as View

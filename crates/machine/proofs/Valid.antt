@@ -1,15 +1,15 @@
 -- Valid states stay valid: an outcome keeps every range, so a turn does, and so does a view.
-use Prim.Native.Nat.{ℕ, zero, suc, _+_, _-_, _*_, _^_, _%_, _≤_, _<_}
-use mathlib.Core.Path.{_≡_, refl, sym, ap, _∙_}
-use mathlib.Core.Bool.{Bool, true, false, cond, _&&_}
+use Prim.Native.Nat.{ℕ, zero, suc, _+_, _-_, _*_, _^_, _≤_, _<_}
+use mathlib.Core.Path.{_≡_, refl}
+use mathlib.Core.Bool.{Bool, _&&_}
 use mathlib.Core.Option.{Option, none, some}
-use mathlib.Core.List.{List, [], _∷_, _++_, map}
+use mathlib.Core.List.{List, [], _∷_, _++_}
 use native.Mathlib.Nat.{mod-lt}
 use native.Mathlib.Omega.{arith}
 use borrow.Author.Tests.{leb-true}
 use lib.Dec.{leb, eqb}
-use lib.ListN.{length, getD, set, replicate, length-set, length-map, List·getD-map, List·getD-eq-default}
-use Rattle.wire.specs.Lists.{Bytes, Every, keep, dropFirst}
+use lib.ListN.{getD, set, replicate, length-set, List·getD-map}
+use Rattle.wire.specs.Lists.{Bytes, keep, dropFirst}
 use Rattle.wire.proofs.Lists.{split, and-both, every-keep, every-head, getD-set-at}
 use Rattle.label.proofs.Order.{Order}
 use Rattle.instruction.specs.declared.Instruction.{Instruction}
@@ -22,12 +22,12 @@ use Rattle.instruction.proofs.Table.{Sound}
 use Rattle.instruction.proofs.Program.{at-below, at-sound, at-bytes}
 use Rattle.machine.specs.State.{Message, Task, Slot, unused, used, State, slotAt, spareOf, withKind, withLabel, withSpare, withPc, withMailbox, register, withRegister, next}
 use Rattle.machine.specs.Effect.{Action, quiet, deliver, spawn, Outcome, alone, childOf, childSlot, receivable, oldest, taken, execute, carriedOut, outcome}
-use Rattle.machine.specs.Turn.{hasRoom, receive, perform, applied, successor, step, turn, turns}
-use Rattle.machine.specs.View.{viewTask, viewSlot, view}
-use Rattle.machine.specs.Valid.{ValidMessage, ValidMailbox, ValidTask, ValidSlot, ValidProgram, Valid}
+use Rattle.machine.specs.Turn.{hasRoom, receive, perform, applied, step, turn, turns}
+use Rattle.machine.specs.View.{viewSlot, view}
+use Rattle.machine.specs.Valid.{ValidMessage, ValidMailbox, ValidTask, ValidSlot, Valid}
 use Rattle.machine.proofs.Mailbox.{mailbox-keep, mailbox-dropFirst, mailbox-append, mailbox-nil}
 use Rattle.machine.proofs.Effect.{outcome-contained}
-use Rattle.machine.proofs.Spare.{Spares, spares-view, spares-applied, used-low}
+use Rattle.machine.proofs.Spare.{Spares, spares-view, spares-applied}
 
 -- ---- a task with one field changed
 

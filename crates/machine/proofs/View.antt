@@ -1,11 +1,11 @@
 -- Laws of views: a view of a view, the view of one who sees everything, and what a message and an outcome show.
 use Prim.Native.Nat.{ℕ, suc}
-use mathlib.Core.Path.{_≡_, refl, sym, ap, _∙_, fun-ext}
-use mathlib.Core.Bool.{Bool, true, false, cond, _&&_}
-use mathlib.Core.List.{List, [], _∷_, _++_, map, map-map, append-nil}
+use mathlib.Core.Path.{_≡_, refl, sym, _∙_}
+use mathlib.Core.Bool.{Bool, true, false, _&&_}
+use mathlib.Core.List.{List, [], _∷_, map, map-map, append-nil}
 use borrow.Author.Tests.{eqb-true}
 use lib.Dec.{eqb}
-use lib.ListN.{length, getD, set, List·getD-map}
+use lib.ListN.{List·getD-map}
 use Rattle.wire.specs.Lists.{Every, keep}
 use Rattle.wire.proofs.Lists.{split, map-set, map-absorb, keep-append, keep-keep, keep-and, keep-all}
 use Rattle.machine.specs.State.{Message, Task, Slot, unused, used, State, slotAt}

@@ -5,7 +5,7 @@ use mathlib.Core.List.{List, [], _∷_, _++_}
 use lib.Dec.{eqb, ltb}
 use lib.ListN.{length, set}
 use Rattle.wire.specs.Lists.{keep}
-use Rattle.machine.specs.State.{Message, Task, Slot, unused, used, State, slotAt, isLive, withMailbox}
+use Rattle.machine.specs.State.{Message, Slot, unused, used, State, slotAt, isLive, withMailbox}
 use Rattle.machine.specs.Effect.{Action, quiet, deliver, spawn, Outcome, outcome}
 
 -- the messages of label l

@@ -1,9 +1,9 @@
 -- Views: an observer is the set of the labels that it sees.
 use Prim.Native.Nat.{ℕ}
 use mathlib.Core.Bool.{Bool, cond}
-use mathlib.Core.List.{List, map}
+use mathlib.Core.List.{map}
 use Rattle.wire.specs.Lists.{keep}
-use Rattle.machine.specs.State.{Message, Task, Slot, unused, used, State, withMailbox}
+use Rattle.machine.specs.State.{Task, Slot, unused, used, State, withMailbox}
 
 module _ (sees : ℕ → Bool) where
   -- messages whose labels the observer does not see are left out

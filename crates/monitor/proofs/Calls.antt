@@ -1,20 +1,17 @@
 -- Laws of the calls: when one is accepted, and what it then tells and writes.
 use Prim.Native.Nat.{ℕ, _≤_}
-use mathlib.Core.Path.{_≡_, refl, sym, ap, _∙_}
-use mathlib.Core.Bool.{true, false, cond}
+use mathlib.Core.Path.{_≡_, refl, sym}
+use mathlib.Core.Bool.{cond}
 use mathlib.Core.List.{List, []}
 use native.Mathlib.Omega.{arith}
-use borrow.Author.Tests.{leb-true, le-leb, eqb-true, eqb-false}
+use borrow.Author.Tests.{leb-true, le-leb, eqb-true}
 use lib.Dec.{leb, eqb}
-use lib.ListN.{length, take, drop}
-use Rattle.wire.specs.Output.{over}
+use lib.ListN.{length, take}
 use Rattle.wire.proofs.Lists.{split}
 use Rattle.wire.proofs.Output.{take-over, drop-over, length-over}
-use Rattle.image.specs.Refusal.{_then_, unless}
 use Rattle.image.specs.Image.{imageNumber}
 use Rattle.image.proofs.Refusal.{then-right, then-le, unless-le, unless-none}
 use Rattle.image.proofs.Image.{image-number-low}
-use Rattle.monitor.specs.declared.Answer.{Answer}
 use Rattle.monitor.specs.Calls.{callNumber, answer, output}
 use Rattle.monitor.specs.Claims.{WritesItsAnswer}
 

@@ -1,6 +1,6 @@
 -- The claims of specs/Claims.antt, inhabited.
 use Prim.Native.Nat.{ℕ, _≤_}
-use mathlib.Core.Path.{_≡_, refl, ap, _∙_}
+use mathlib.Core.Path.{refl, ap, _∙_}
 use mathlib.Core.List.{List}
 use native.Mathlib.Omega.{arith}
 use borrow.Author.Tests.{le-leb}
@@ -13,9 +13,9 @@ use Rattle.machine.proofs.Machine.{turns-valid, view-valid, view-15}
 use Rattle.image.specs.Refusal.{unless}
 use Rattle.image.proofs.Refusal.{unless-le}
 use Rattle.image.specs.Image.{stateOf, imageBytes}
-use Rattle.image.proofs.Image.{accepted, accepted-length, image-forth}
+use Rattle.image.proofs.Image.{accepted, accepted-length, image-forth, record-part, record-above, record-refused, record-inside}
 use Rattle.monitor.specs.Calls.{rewriteBytes, rewriteNumber, turnsBytes, turnsNumber, viewBytes, viewNumber}
-use Rattle.monitor.specs.Claims.{NumbersAreListed, OthersAreAccepted, CallsWriteTheirAnswer, ImageLengths, ReadThenWrite, WriteThenRead, ViewIsAccepted, ViewFor15, Secrecy, EqualViewsAreEqualBytes}
+use Rattle.monitor.specs.Claims.{NumbersAreListed, OthersAreAccepted, CallsWriteTheirAnswer, RecordIsItsPart, ImageLengths, ReadThenWrite, WriteThenRead, ViewIsAccepted, ViewFor15, Secrecy, EqualViewsAreEqualBytes}
 use Rattle.monitor.proofs.Calls.{call-room, call-none, call-listed, writes-its-answer}
 use Rattle.monitor.proofs.Secrecy as Secrecy
 use Rattle.monitor.proofs.Secrecy.{read-valid, rewritten, written-accepted, equal-bytes, equal-views}
@@ -46,6 +46,15 @@ calls-write-their-answer image out = (
   λ n. writes-its-answer (turnsNumber n image out) (turnsBytes n image) (busy n (stateOf image)) out (call-room (unless (leb n 1000000) 2) image (turnsBytes n image) out),
   λ v. writes-its-answer (viewNumber v image out) (viewBytes v image) 0 out (call-room (unless (leb v 15) 1) image (viewBytes v image) out),
 )
+
+pub record-is-its-part : RecordIsItsPart
+record-is-its-part image slot =
+    record {
+      inside = record-inside image slot;
+      bytes = λ a l. record-part image slot (a .bytes) (a .number) l;
+      above = record-above image slot;
+      refused = record-refused image slot;
+    }
 
 pub image-lengths : ImageLengths
 image-lengths image a = accepted-length image (accepted image (a .number))

@@ -1,24 +1,20 @@
 -- The secrecy rule: a list of turn calls comes to its sum of turns, and turns keep equal views equal.
-use Prim.Native.Nat.{ℕ, zero, suc, _+_, _≤_}
+use Prim.Native.Nat.{ℕ, _+_, _≤_}
 use mathlib.Core.Path.{_≡_, refl, sym, ap, _∙_}
-use mathlib.Core.Bool.{Bool, true, false, cond}
+use mathlib.Core.Bool.{cond}
 use mathlib.Core.List.{List, [], _∷_}
 use native.Mathlib.Omega.{arith}
 use borrow.Author.Tests.{le-leb, eqb-true}
-use lib.Dec.{leb, eqb}
+use lib.Dec.{leb}
 use lib.ListN.{length, take, replicate, length-replicate}
-use Rattle.wire.specs.Lists.{Bytes}
-use Rattle.wire.specs.Output.{over}
 use Rattle.wire.proofs.Lists.{split}
-use Rattle.wire.proofs.Output.{take-over}
 use Rattle.machine.specs.State.{State}
 use Rattle.machine.specs.Turn as Turn
 use Rattle.machine.specs.Valid.{Valid}
 use Rattle.machine.specs.Machine.{turns, view, busy}
 use Rattle.machine.proofs.Machine.{turns-valid, view-valid, turns-add, turns-same}
-use Rattle.label.specs.Label.{flows, join}
 use Rattle.image.specs.Refusal.{unless}
-use Rattle.image.specs.Image.{imageNumber, stateOf, imageBytes}
+use Rattle.image.specs.Image.{stateOf, imageBytes}
 use Rattle.image.proofs.Image.{accepted, accepted-valid, image-back, image-bytes, image-accepted, image-forth}
 use Rattle.monitor.specs.Calls.{callNumber, turnsBytes, turnsNumber, viewBytes, viewNumber, viewAnswer, viewOutput}
 use Rattle.monitor.specs.Claims.{Accepted, TurnCall, isAccepted, imageAfter, finalImage, turnsCarriedOut, EqualViews}

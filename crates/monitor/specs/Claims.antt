@@ -6,11 +6,12 @@ use mathlib.Core.List.{List, [], _∷_}
 use lib.Dec.{eqb}
 use lib.ListN.{length, take, drop}
 use Rattle.wire.specs.Lists.{Bytes}
-use Rattle.machine.specs.State.{State}
+use Rattle.machine.specs.State.{State, slotAt}
 use Rattle.machine.specs.Valid.{Valid}
+use Rattle.image.specs.Record.{recordBytes}
 use Rattle.image.specs.Image.{imageNumber, stateOf, imageBytes}
 use Rattle.monitor.specs.declared.Answer.{Answer}
-use Rattle.monitor.specs.Calls.{rewriteBytes, rewriteNumber, rewriteAnswer, rewriteOutput, turnsNumber, turnsAnswer, turnsOutput, viewBytes, viewNumber, viewAnswer, viewOutput}
+use Rattle.monitor.specs.Calls.{recordAnswer, rewriteBytes, rewriteNumber, rewriteAnswer, rewriteOutput, turnsNumber, turnsAnswer, turnsOutput, viewBytes, viewNumber, viewAnswer, viewOutput}
 
 -- an accepted image: bytes that have no number
 pub record Accepted (image : List ℕ) : Type 0 where
@@ -48,6 +49,17 @@ CallsWriteTheirAnswer =
     → WritesItsAnswer (rewriteAnswer image out) out (rewriteOutput image out)
     × ((n : ℕ) → WritesItsAnswer (turnsAnswer n image out) out (turnsOutput n image out))
     × ((v : ℕ) → WritesItsAnswer (viewAnswer v image out) out (viewOutput v image out))
+
+-- "The reader hands back each record as the part of the caller's image that holds it. The part is the record's bytes
+-- without the 2-byte length. That part is empty for an unused slot, a slot number above 15 or a refused image."
+pub record IsRecordPart (image : List ℕ) (slot : ℕ) (part : List ℕ) : Type 0 where
+  pub inside : (start : ℕ) × (part ≡ take (length part) (drop start image))
+  pub bytes : Accepted image → slot ≤ 15 → part ≡ recordBytes (slotAt (stateOf image .slots) slot)
+  pub above : (slot ≤ 15 → ⊥) → part ≡ []
+  pub refused : (imageNumber image ≡ 0 → ⊥) → part ≡ []
+
+abbrev pub RecordIsItsPart : Type 0
+RecordIsItsPart = (image : List ℕ) (slot : ℕ) → IsRecordPart image slot (recordAnswer image slot)
 
 -- ---- images, demand 2
 

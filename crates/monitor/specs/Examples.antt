@@ -1,11 +1,11 @@
 -- The checked examples that 01 marks P, and the order of refusals over a call, as rows of one claim about the definitions.
 use Prim.Native.Nat.{ℕ}
 use mathlib.Core.Path.{_≡_}
-use mathlib.Core.Bool.{Bool, true, false}
+use mathlib.Core.Bool.{true, false}
 use mathlib.Core.List.{List, [], _∷_, _++_}
 use lib.ListN.{set, replicate}
 use Rattle.label.specs.Label.{flows}
-use Rattle.machine.specs.State.{Message, Task, Slot, unused, used, State, withKind, withSpare, withPc, withRegister, withMailbox, next}
+use Rattle.machine.specs.State.{Message, Task, Slot, unused, used, State, withKind, withSpare, withRegister, withMailbox, next}
 use Rattle.machine.specs.Machine.{turns, busy, view}
 use Rattle.image.specs.Image.{imageBytes}
 use Rattle.monitor.specs.Calls.{rewriteNumber, turnsNumber, viewNumber}

@@ -1,15 +1,15 @@
 -- Laws of the tests and filters over lists.
 use Prim.Native.Nat.{ℕ, zero, suc, _+_, _≤_, _<_}
-use mathlib.Core.Path.{_≡_, refl, sym, ap, _∙_}
-use mathlib.Core.Bool.{Bool, true, false, cond, _&&_, and-false}
+use mathlib.Core.Path.{_≡_, refl, ap}
+use mathlib.Core.Bool.{Bool, true, false, _&&_}
 use mathlib.Core.List.{List, [], _∷_, _++_, map, head?}
 use mathlib.Core.Option.{some}
-use native.Mathlib.Decide.{decLe, decLt}
+use native.Mathlib.Decide.{decLe}
 use native.Mathlib.Nat.{not-suc-le-zero}
 use native.Mathlib.Numerals.{add-one}
 use native.Mathlib.Omega.{arith}
-use lib.ListN.{length, getD, set, take, drop, length-append, List·getD-append, List·getD-eq-default}
-use lib.Seq.{getD-drop, getD-append-add}
+use lib.ListN.{length, getD, set, take, drop}
+use lib.Seq.{getD-drop}
 use Rattle.wire.specs.Lists.{each, Bytes, Every, all, keep, dropFirst}
 
 -- ---- cases
@@ -80,6 +80,11 @@ module _ {A : Type 0} where
   pub length-nil : (l : List A) → length l ≡ 0 → l ≡ []
   length-nil [] e = refl
   length-nil (x ∷ xs) e = absurd (omega arith)
+
+  pub take-length-take : (n : ℕ) (l : List A) → take n l ≡ take (length (take n l)) l
+  take-length-take zero l = refl
+  take-length-take (suc n) [] = refl
+  take-length-take (suc n) (x ∷ l) = rw (← take-length-take n l)
 
 -- ---- bytes
 
