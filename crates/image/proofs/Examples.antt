@@ -3,15 +3,16 @@ use mathlib.Core.Path.{refl}
 use Rattle.wire.specs.Lists as Lists
 use Rattle.instruction.specs.Table as Table
 use Rattle.instruction.specs.Program as Program
+use Rattle.machine.specs.Valid as Valid
 use Rattle.image.specs.Record as Record
 use Rattle.image.specs.Image as Image
 use Rattle.image.specs.Examples.{Examples}
 
 pub examples : Examples
-unfolding Lists.each Lists.all Table.decode Program.instructionAt Program.allLegal Record.messagesOf Record.wordsOf Record.mailboxBytes Record.wordsBytes Image.programLength Image.slotsPart Image.versionNumber Image.isProgramLength Image.programNumber Image.turnSlotNumber Image.recordLength Image.skip Image.slotsOf Image.isRecordLength Image.slotNumber Image.slotsNumber Image.tailNumber Image.sparesUnused Image.spareNumber Image.imageNumber Image.slotsBytes Image.imageBytes
+unfolding Lists.each Lists.all Table.decode Program.instructionAt Program.allLegal Record.messagesOf Record.wordsOf Record.mailboxBytes Record.wordsBytes Image.programLength Image.slotsPart Image.versionNumber Valid.isProgramLength Image.programNumber Image.turnSlotNumber Image.recordLength Image.skip Image.slotsOf Image.isRecordLength Image.slotNumber Image.slotsNumber Image.tailNumber Valid.sparesUnused Image.spareNumber Image.imageNumber Image.slotsBytes Image.imageBytes
 examples = record {
   shortest = (refl, refl);
-  full = (refl, refl);
+  longest = (refl, refl);
   short = refl;
   version = refl;
   programLength = refl;

@@ -1,34 +1,28 @@
 -- The round trips of an image: accepted bytes give a valid state that is written as they were, and a valid state's
 -- bytes are accepted and give it back; the lengths of an image; the part of a record.
-use Prim.Native.Nat.{ℕ, suc, _+_, _%_, _≤_}
+use Prim.Native.Nat.{ℕ, suc, _+_, _≤_}
 use mathlib.Core.Path.{_≡_, refl, sym, ap, ap₂, _∙_}
 use mathlib.Core.Bool.{true, _&&_, and-false}
 use mathlib.Core.List.{List, [], _∷_, _++_, append-nil}
 use native.Mathlib.Nat.{zero-add, not-suc-le-zero, le-of-suc-le-suc}
 use native.Mathlib.Omega.{arith}
-use borrow.Author.Tests.{leb-true, le-leb, eqb-true, eq-eqb, ne-eqb}
+use borrow.Author.Tests.{leb-true, le-leb, eqb-true, ne-eqb}
 use lib.Dec.{leb, eqb}
 use lib.ListN.{length, getD, take, drop, length-append, length-drop, take-append-drop}
 use lib.Seq.{take-add, length-take-le, take-append-seam, drop-append-seam, getD-append-seam, getD-drop, drop-drop, drop-cons}
 use Rattle.wire.specs.Lists.{Bytes}
 use Rattle.wire.specs.Numbers.{decodeNumber, encodeNumber}
-use Rattle.wire.proofs.Lists.{split, and-both, length-nil, take-length-take, bytes-take, bytes-drop, bytes-append, bytes-cons}
+use Rattle.wire.proofs.Lists.{split, length-nil, take-length-take, bytes-take, bytes-drop, bytes-append, bytes-cons}
 use Rattle.wire.proofs.Numbers.{encode-decode, decode-encode, encode-bytes}
 use Rattle.instruction.specs.Program.{count, allLegal}
 use Rattle.machine.specs.State.{State, slotAt}
-use Rattle.machine.specs.Valid.{ValidSlot, Valid}
+use Rattle.machine.specs.Valid.{isProgramLength, isTurnSlot, sparesUnused, ValidSlot, Valid}
+use Rattle.machine.proofs.Rules.{size-facts}
 use Rattle.image.specs.Refusal.{unless, short}
 use Rattle.image.specs.Record.{recordBytes}
-use Rattle.image.specs.Image.{programLength, programOf, turnSlotOf, slotsPart, versionNumber, isProgramLength, programNumber, turnSlotNumber, recordLength, skip, slotsOf, slotsNumber, tailNumber, sparesUnused, spareNumber, imageNumber, stateOf, recordPart, slotsBytes, imageBytes}
+use Rattle.image.specs.Image.{programLength, programOf, turnSlotOf, slotsPart, versionNumber, programNumber, turnSlotNumber, recordLength, skip, slotsOf, slotsNumber, tailNumber, spareNumber, imageNumber, stateOf, recordPart, slotsBytes, imageBytes}
 use Rattle.image.proofs.Refusal.{then-left, then-right, then-le, unless-le, short-le, unless-none, short-none}
-use Rattle.image.proofs.Slots.{slots-back, slots-valid, slots-length, slots-number-low, length-slotsOf, slot-at, skip-drop, record-at, slots-number, slots-forth, slots-end, slots-bytes, spares-fact, spares-test}
-
-program-length : (l : ℕ) → isProgramLength l ≡ true → (l % 4 ≡ 0) × (4 ≤ l) × (l ≤ 1024)
-unfolding isProgramLength
-program-length l e =
-    let abc = and-both (eqb (l % 4) 0 && leb 4 l) (leb l 1024) e in
-    let ab = and-both (eqb (l % 4) 0) (leb 4 l) (abc .0) in
-    (eqb-true _ _ (ab .0), leb-true _ _ (ab .1), leb-true _ _ (abc .1))
+use Rattle.image.proofs.Slots.{slots-back, slots-valid, slots-length, slots-number-low, length-slotsOf, slot-at, skip-drop, record-at, slots-number, slots-forth, slots-end, slots-bytes}
 
 -- ---- what acceptance says, part by part
 
@@ -38,7 +32,7 @@ pub record Accepted (b : List ℕ) : Type 0 where
   pub size : isProgramLength (programLength b) ≡ true
   pub legal : allLegal (programOf b) ≡ true
   pub ahead : 4 + programLength b ≤ length b
-  pub turnSlot : turnSlotOf b ≤ 15
+  pub turnSlot : isTurnSlot (turnSlotOf b) ≡ true
   pub slots : slotsNumber 16 0 (count (programOf b)) (slotsPart b) ≡ 0
   pub tail : skip 16 (slotsPart b) ≡ []
   pub spares : sparesUnused (slotsOf 16 (slotsPart b)) ≡ true
@@ -60,16 +54,13 @@ accepted b e =
       size = unless-none (isProgramLength (programLength b)) 4 (then-left _ _ p₂);
       legal = unless-none (allLegal (programOf b)) 5 p₄;
       ahead = short-none (4 + programLength b) b (then-left _ _ t₂);
-      turnSlot = leb-true _ _ (unless-none (leb (turnSlotOf b) 15) 6 (then-right (short (4 + programLength b) b) _ t₂));
+      turnSlot = unless-none (isTurnSlot (turnSlotOf b)) 6 (then-right (short (4 + programLength b) b) _ t₂);
       slots = then-left _ _ s;
       tail = length-nil _ (eqb-true _ _ (unless-none (eqb (length (skip 16 (slotsPart b))) 0) 10 (then-left (tailNumber b) _ r)));
       spares = unless-none (sparesUnused (slotsOf 16 (slotsPart b))) 11 (then-right (tailNumber b) _ r);
     }
 
 module _ (b : List ℕ) (a : Accepted b) where
-  size-facts : (programLength b % 4 ≡ 0) × (4 ≤ programLength b) × (programLength b ≤ 1024)
-  size-facts = program-length (programLength b) (a .size)
-
   program-size : length (programOf b) ≡ programLength b
   program-size = length-take-le (programLength b) (drop 3 b) (rw length-drop (omega (arith, a .ahead)))
 
@@ -77,7 +68,7 @@ module _ (b : List ℕ) (a : Accepted b) where
   pub accepted-length : (40 ≤ length b) × (length b ≤ 7796)
   unfolding slotsPart
   accepted-length =
-      let f = size-facts in
+      let f = size-facts (programLength b) (a .size) in
       let s = slots-length 16 0 (count (programOf b)) (slotsPart b) (a .slots) in
       let z : length (skip 16 (slotsPart b)) ≡ 0 = ap length (a .tail) in
       let d = length-drop (4 + programLength b) b in
@@ -89,21 +80,15 @@ module _ (b : List ℕ) (h : Bytes b) (a : Accepted b) where
   pub accepted-valid : Valid (stateOf b)
   unfolding stateOf slotsPart
   accepted-valid =
-      let f = size-facts b a in
-      let l = program-size b a in
       let s = drop (4 + programLength b) b in
       record {
-        program = record {
-          fours = rw l (f .0);
-          shortest = omega arith;
-          longest = omega arith;
-          bytes = bytes-take (programLength b) (drop 3 b) (bytes-drop 3 b h);
-          legal = a .legal;
-        };
+        size = rw (program-size b a) (a .size);
+        bytes = bytes-take (programLength b) (drop 3 b) (bytes-drop 3 b h);
+        legal = a .legal;
         turnSlot = a .turnSlot;
         sixteen = length-slotsOf 16 s;
         tasks = λ i. rw zero-add at (slots-valid 16 0 (count (programOf b)) s (bytes-drop (4 + programLength b) b h) (a .slots) i);
-        spares = spares-fact (slotsOf 16 s) (length-slotsOf 16 s) (a .spares);
+        spares = a .spares;
       }
 
   -- ---- and is written as it was read
@@ -148,7 +133,7 @@ module _ (s : State) (ok : Valid s) where
 
   size-is : programLength b ≡ L
   unfolding b L imageBytes programLength
-  size-is = decode-encode 2 (length (s .program)) (s .program ++ s .turnSlot ∷ slotsBytes (s .slots)) (omega (arith, ok .program .longest))
+  size-is = decode-encode 2 (length (s .program)) (s .program ++ s .turnSlot ∷ slotsBytes (s .slots)) (omega (arith, size-facts (length (s .program)) (ok .size)))
 
   program-is : take L (drop 3 b) ≡ s .program
   unfolding b L imageBytes
@@ -169,7 +154,7 @@ module _ (s : State) (ok : Valid s) where
   room = omega (arith, length-append (s .program) (s .turnSlot ∷ slotsBytes (s .slots)))
 
   few : count (s .program) ≤ 256
-  few = omega (arith, ok .program .longest)
+  few = omega (arith, size-facts (length (s .program)) (ok .size))
 
   tasks-from-0 : (i : ℕ) → ValidSlot (count (s .program)) (0 + i) (slotAt (s .slots) i)
   tasks-from-0 i = rw zero-add (ok .tasks i)
@@ -180,8 +165,8 @@ module _ (s : State) (ok : Valid s) where
       let head = encodeNumber 2 (length (s .program)) in
       let tail = s .turnSlot ∷ slotsBytes (s .slots) in
       bytes-cons 1 (head ++ s .program ++ tail) (omega arith)
-      (bytes-append (head ++ s .program) tail (bytes-append head (s .program) (encode-bytes 2 (length (s .program))) (ok .program .bytes))
-      (bytes-cons (s .turnSlot) (slotsBytes (s .slots)) (omega (arith, ok .turnSlot)) (slots-bytes (count (s .program)) few 0 (s .slots) tasks-from-0)))
+      (bytes-append (head ++ s .program) tail (bytes-append head (s .program) (encode-bytes 2 (length (s .program))) (ok .bytes))
+      (bytes-cons (s .turnSlot) (slotsBytes (s .slots)) (omega (arith, leb-true (s .turnSlot) 15 (ok .turnSlot))) (slots-bytes (count (s .program)) few 0 (s .slots) tasks-from-0)))
 
   slots-read : slotsOf 16 (slotsBytes (s .slots)) ≡ s .slots
   slots-read = ap (λ (k : ℕ). slotsOf k (slotsBytes (s .slots))) (sym (ok .sixteen)) ∙ slots-forth (count (s .program)) few 0 (s .slots) tasks-from-0
@@ -205,11 +190,6 @@ module _ (s : State) (ok : Valid s) where
   unfolding b imageBytes
   version-is = refl
 
-  size-in-range : isProgramLength (length (s .program)) ≡ true
-  unfolding isProgramLength
-  size-in-range =
-      rw (eq-eqb (length (s .program) % 4) 0 (ok .program .fours), le-leb 4 (length (s .program)) (ok .program .shortest), le-leb (length (s .program)) 1024 (ok .program .longest))
-
   pub image-accepted : imageNumber (imageBytes s) ≡ 0
   unfolding b L imageNumber versionNumber programNumber turnSlotNumber slotsPart tailNumber spareNumber
   image-accepted =
@@ -223,14 +203,14 @@ module _ (s : State) (ok : Valid s) where
         slots-read,
         slots-none,
         tail-none,
-        size-in-range,
-        ok .program .legal,
-        spares-test (s .slots) (ok .spares),
+        ok .size,
+        ok .legal,
+        ok .turnSlot,
+        ok .spares,
         le-leb 1 (length (imageBytes s)) (omega arith),
         le-leb 3 (length (imageBytes s)) (omega arith),
         le-leb (3 + length (s .program)) (length (imageBytes s)) (omega arith),
         le-leb (4 + length (s .program)) (length (imageBytes s)) m,
-        le-leb (s .turnSlot) 15 (ok .turnSlot),
       )
 
 -- ---- an image's number is one of the table
@@ -242,7 +222,7 @@ head-numbers-low b = (
   then-le 12 (short 3 b) _ (short-le 12 3 b (omega arith))
       (then-le 12 (unless (isProgramLength (programLength b)) 5) _ (unless-le 12 (isProgramLength (programLength b)) 5 (omega arith))
       (then-le 12 (short (3 + programLength b) b) _ (short-le 12 (3 + programLength b) b (omega arith)) (unless-le 12 (allLegal (programOf b)) 6 (omega arith)))),
-  then-le 12 (short (4 + programLength b) b) _ (short-le 12 (4 + programLength b) b (omega arith)) (unless-le 12 (leb (turnSlotOf b) 15) 7 (omega arith)),
+  then-le 12 (short (4 + programLength b) b) _ (short-le 12 (4 + programLength b) b (omega arith)) (unless-le 12 (isTurnSlot (turnSlotOf b)) 7 (omega arith)),
 )
 
 pub image-number-low : (b : List ℕ) → imageNumber b ≤ 12

@@ -1,23 +1,20 @@
 -- Records to tasks and back, tasks to records and back, and what the numbers 9 and 10 leave: valid tasks.
 use Prim.Native.Nat.{ℕ, zero, suc, _+_, _*_, _-_, _/_, _%_, _^_, _<_, _≤_}
 use mathlib.Core.Path.{_≡_, refl, sym, ap, ap₂, _∙_}
-use mathlib.Core.Bool.{true, _&&_}
 use mathlib.Core.List.{List, [], _∷_, _++_}
 use native.Mathlib.Nat.{not-suc-le-zero, le-of-suc-le-suc}
 use native.Mathlib.Omega.{arith}
-use borrow.Author.Tests.{leb-true, le-leb}
-use lib.Dec.{leb}
 use lib.ListN.{length, getD, take, drop, length-append, length-drop, take-append-drop}
 use lib.Seq.{take-add, take-all, drop-at}
-use Rattle.wire.specs.Lists.{Bytes, Every, each, all}
+use Rattle.wire.specs.Lists.{Bytes, Every, each}
 use Rattle.wire.specs.Numbers.{encodeNumber}
-use Rattle.wire.proofs.Lists.{and-both, and-intro, each-intro, each-at, every-all, bytes-drop, bytes-append, bytes-cons, bytes-nil}
+use Rattle.wire.proofs.Lists.{bytes-drop, bytes-append, bytes-cons, bytes-nil}
 use Rattle.wire.proofs.Numbers.{encode-decode, decode-encode, decode-lt, encode-bytes}
 use Rattle.machine.specs.State.{Message, Task, Slot, unused, used}
-use Rattle.machine.specs.Turn.{ofLabel}
-use Rattle.machine.specs.Valid.{ValidMessage, ValidMailbox, ValidTask, ValidSlot}
+use Rattle.machine.specs.Valid.{fieldsInRange, mailInRange, ValidTask, ValidSlot}
+use Rattle.machine.proofs.Rules.{MessageFacts, task-facts}
 use Rattle.image.specs.Refusal.{unless}
-use Rattle.image.specs.Record.{messageOf, messagesOf, wordsOf, taskOf, slotOf, messageBytes, mailboxBytes, wordsBytes, taskBytes, recordBytes, fieldsInRange, addressed, mailInRange, recordNumber}
+use Rattle.image.specs.Record.{messageOf, messagesOf, wordsOf, taskOf, slotOf, messageBytes, mailboxBytes, wordsBytes, taskBytes, recordBytes, recordNumber}
 use Rattle.image.proofs.Refusal.{then-left, then-right, unless-none}
 
 -- ---- bytes to a task and back
@@ -67,11 +64,11 @@ words-forth [] q h = refl
 words-forth (x ∷ xs) q h =
     ap₂ (λ (a : ℕ) (r : List ℕ). a ∷ r) (decode-encode 4 x (wordsBytes xs ++ q) (h 0)) (words-forth xs q (λ a. h (suc a)))
 
-messages-forth : (ms : List Message) → Every ValidMessage ms → messagesOf (length ms) (mailboxBytes ms) ≡ ms
+messages-forth : (ms : List Message) → Every (λ m. m .value < 2 ^ 32) ms → messagesOf (length ms) (mailboxBytes ms) ≡ ms
 unfolding messagesOf mailboxBytes
 messages-forth [] h = refl
 messages-forth (m ∷ ms) h =
-    ap₂ (λ (v : ℕ) (r : List Message). record { label = m .label; sender = m .sender; value = v } ∷ r) (decode-encode 4 (m .value) (mailboxBytes ms) (h .0 .value)) (messages-forth ms (h .1))
+    ap₂ (λ (v : ℕ) (r : List Message). record { label = m .label; sender = m .sender; value = v } ∷ r) (decode-encode 4 (m .value) (mailboxBytes ms) (h .0)) (messages-forth ms (h .1))
 
 length-mailbox : (ms : List Message) → length (mailboxBytes ms) ≡ 6 * length ms
 unfolding mailboxBytes
@@ -83,7 +80,7 @@ unfolding wordsBytes
 length-words [] = refl
 length-words (x ∷ xs) = ap (λ (n : ℕ). suc (suc (suc (suc n)))) (length-words xs) ∙ omega arith
 
-mailbox-forth : (ms : List Message) → Every ValidMessage ms → messagesOf (length (mailboxBytes ms) / 6) (mailboxBytes ms) ≡ ms
+mailbox-forth : (ms : List Message) → Every (λ m. m .value < 2 ^ 32) ms → messagesOf (length (mailboxBytes ms) / 6) (mailboxBytes ms) ≡ ms
 mailbox-forth ms h =
     let e : length (mailboxBytes ms) / 6 ≡ length ms = omega (arith, length-mailbox ms) in
     rw e (messages-forth ms h)
@@ -96,11 +93,11 @@ module _ (n s : ℕ) (t : Task) (ok : ValidTask n s t) where
   task-forth h =
       let w = wordsBytes (t .registers) in
       let m = mailboxBytes (t .mailbox) in
-      let p = decode-encode 2 (t .pc) (w ++ m) (omega (arith, ok .pc)) in
+      let p = decode-encode 2 (t .pc) (w ++ m) (omega (arith, task-facts n s t ok .pc)) in
       let r : wordsOf 8 (w ++ m) ≡ t .registers = ap (λ (k : ℕ). wordsOf k (w ++ m)) (sym (ok .registers)) ∙ words-forth (t .registers) m (ok .words) in
       let k : length w ≡ 32 = omega (arith, length-words (t .registers), ok .registers) in
       let q : messagesOf (length (drop 32 (w ++ m)) / 6) (drop 32 (w ++ m)) ≡ t .mailbox
-      = ap (λ (b : List ℕ). messagesOf (length b / 6) b) (drop-at w m 32 k) ∙ mailbox-forth (t .mailbox) (ok .mailbox .each) in
+      = ap (λ (b : List ℕ). messagesOf (length b / 6) b) (drop-at w m 32 k) ∙ mailbox-forth (t .mailbox) (ok .values) in
       λ i. record { kind = t .kind; label = t .label; spare = t .spare; pc = p i; registers = r i; mailbox = q i }
 
 -- ---- a valid task's record consists of bytes
@@ -110,7 +107,7 @@ unfolding wordsBytes
 words-bytes [] = bytes-nil
 words-bytes (x ∷ xs) = bytes-append (encodeNumber 4 x) (wordsBytes xs) (encode-bytes 4 x) (words-bytes xs)
 
-mailbox-bytes : (ms : List Message) → Every ValidMessage ms → Bytes (mailboxBytes ms)
+mailbox-bytes : (ms : List Message) → Every MessageFacts ms → Bytes (mailboxBytes ms)
 unfolding mailboxBytes
 mailbox-bytes [] h = bytes-nil
 mailbox-bytes (m ∷ ms) h =
@@ -122,12 +119,13 @@ mailbox-bytes (m ∷ ms) h =
 pub record-bytes : (n s : ℕ) (x : Slot) → ValidSlot n s x → Bytes (recordBytes x)
 record-bytes n s unused ok = bytes-nil
 record-bytes n s (used t) ok =
+    let f = task-facts n s t ok in
     let head = encodeNumber 2 (t .pc) in
     let w = wordsBytes (t .registers) in
     let m = mailboxBytes (t .mailbox) in
-    let fields = bytes-append (head ++ w) m (bytes-append head w (encode-bytes 2 (t .pc)) (words-bytes (t .registers))) (mailbox-bytes (t .mailbox) (ok .mailbox .each)) in
-    bytes-cons (t .kind) (t .label ∷ t .spare ∷ head ++ w ++ m) (omega (arith, ok .kind-high))
-    (bytes-cons (t .label) (t .spare ∷ head ++ w ++ m) (omega (arith, ok .label)) (bytes-cons (t .spare) (head ++ w ++ m) (omega (arith, ok .spare)) fields))
+    let fields = bytes-append (head ++ w) m (bytes-append head w (encode-bytes 2 (t .pc)) (words-bytes (t .registers))) (mailbox-bytes (t .mailbox) (f .mailbox .each)) in
+    bytes-cons (t .kind) (t .label ∷ t .spare ∷ head ++ w ++ m) (omega (arith, f .kind-high))
+    (bytes-cons (t .label) (t .spare ∷ head ++ w ++ m) (omega (arith, f .label)) (bytes-cons (t .spare) (head ++ w ++ m) (omega (arith, f .spare)) fields))
 
 -- ---- a record with no number holds a valid task
 
@@ -142,65 +140,28 @@ unfolding wordsOf
 length-wordsOf zero b = refl
 length-wordsOf (suc k) b = ap suc (length-wordsOf k (drop 4 b))
 
-messages-valid : (k : ℕ) (b : List ℕ) → Bytes b → all addressed (messagesOf k b) ≡ true → Every ValidMessage (messagesOf k b)
-unfolding messagesOf all
-messages-valid zero b h e = tt
-messages-valid (suc k) b h e =
-    let e₂ = and-both (addressed (messageOf b)) (all addressed (messagesOf k (drop 6 b))) e in
-    let e₃ = and-both (leb (getD b 0 0) 15) (leb (getD b 1 0) 15) (e₂ .0) in
-    (record { label = leb-true _ 15 (e₃ .0); sender = leb-true _ 15 (e₃ .1); value = decode-lt 4 (drop 2 b) (bytes-drop 2 b h) }, messages-valid k (drop 6 b) (bytes-drop 6 b h) (e₂ .1))
-
-mailbox-valid : (k : ℕ) (b : List ℕ) → Bytes b → mailInRange (messagesOf k b) ≡ true → ValidMailbox (messagesOf k b)
-mailbox-valid k b h e =
-    let ms = messagesOf k b in
-    let e₂ = and-both (all addressed ms) (each 16 (λ l. leb (length (ofLabel l ms)) 4)) e in
-    record {
-      each = messages-valid k b h (e₂ .0);
-      four = λ l m. leb-true (length (ofLabel l ms)) 4 (each-at 16 (λ l. leb (length (ofLabel l ms)) 4) (e₂ .1) l (omega arith));
-    }
-
-module _ (s n : ℕ) (t : Task) where
-  -- the five tests of number 9
-  fields-valid : fieldsInRange s n t ≡ true → (1 ≤ t .kind) × (t .kind ≤ 5) × (t .label ≤ 15) × (t .pc ≤ n) × (s + t .spare ≤ 15)
-  fields-valid e =
-      let spare = and-both (leb 1 (t .kind) && leb (t .kind) 5 && leb (t .label) 15 && leb (t .pc) n) (leb (s + t .spare) 15) e in
-      let pc = and-both (leb 1 (t .kind) && leb (t .kind) 5 && leb (t .label) 15) (leb (t .pc) n) (spare .0) in
-      let label = and-both (leb 1 (t .kind) && leb (t .kind) 5) (leb (t .label) 15) (pc .0) in
-      let kind = and-both (leb 1 (t .kind)) (leb (t .kind) 5) (label .0) in
-      (leb-true _ _ (kind .0), leb-true _ _ (kind .1), leb-true _ _ (label .1), leb-true _ _ (pc .1), leb-true _ _ (spare .1))
-
-  valid-fields : ValidTask n s t → fieldsInRange s n t ≡ true
-  valid-fields ok =
-      rw (le-leb 1 (t .kind) (ok .kind-low), le-leb (t .kind) 5 (ok .kind-high), le-leb (t .label) 15 (ok .label), le-leb (t .pc) n (ok .pc), le-leb (s + t .spare) 15 (ok .spare))
+values-low : (k : ℕ) (b : List ℕ) → Bytes b → Every (λ m. m .value < 2 ^ 32) (messagesOf k b)
+unfolding messagesOf
+values-low zero b h = tt
+values-low (suc k) b h = (decode-lt 4 (drop 2 b) (bytes-drop 2 b h), values-low k (drop 6 b) (bytes-drop 6 b h))
 
 pub record-valid : (s n : ℕ) (r : List ℕ) → Bytes r → recordNumber s n (slotOf r) ≡ 0 → ValidSlot n s (slotOf r)
 record-valid s n [] h e = tt
 record-valid s n (x ∷ q) h e =
     let r = x ∷ q in
-    let f = fields-valid s n (taskOf r) (unless-none (fieldsInRange s n (taskOf r)) 8 (then-left _ _ e)) in
-    let m = unless-none (mailInRange (taskOf r .mailbox)) 9 (then-right (unless (fieldsInRange s n (taskOf r)) 9) _ e) in
     record {
-      kind-low = f .0;
-      kind-high = f .1;
-      label = f .2;
-      spare = f .4;
-      pc = f .3;
+      fields = unless-none (fieldsInRange s n (taskOf r)) 8 (then-left _ _ e);
+      mail = unless-none (mailInRange (taskOf r .mailbox)) 9 (then-right (unless (fieldsInRange s n (taskOf r)) 9) _ e);
       registers = length-wordsOf 8 (drop 5 r);
       words = words-low 8 (drop 5 r) (bytes-drop 5 r h);
-      mailbox = mailbox-valid (length (drop 37 r) / 6) (drop 37 r) (bytes-drop 37 r h) m;
+      values = values-low (length (drop 37 r) / 6) (drop 37 r) (bytes-drop 37 r h);
     }
 
 -- ---- and a valid task gives none
 
-valid-mail : (ms : List Message) → ValidMailbox ms → mailInRange ms ≡ true
-valid-mail ms ok =
-    and-intro (all addressed ms) (each 16 (λ l. leb (length (ofLabel l ms)) 4))
-    (every-all ValidMessage addressed (λ m h. and-intro (leb (m .label) 15) (leb (m .sender) 15) (le-leb _ 15 (h .label)) (le-leb _ 15 (h .sender))) ms (ok .each))
-    (each-intro 16 (λ l. leb (length (ofLabel l ms)) 4) (λ l h. le-leb (length (ofLabel l ms)) 4 (ok .four l (omega arith))))
-
 pub valid-record : (s n : ℕ) (x : Slot) → ValidSlot n s x → recordNumber s n x ≡ 0
 valid-record s n unused ok = refl
-valid-record s n (used t) ok = rw (valid-fields s n t ok, valid-mail (t .mailbox) (ok .mailbox))
+valid-record s n (used t) ok = rw (ok .fields, ok .mail)
 
 -- ---- slots
 

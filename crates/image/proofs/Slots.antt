@@ -1,25 +1,25 @@
--- The slots of an image, one after another: bytes to slots and back, slots to bytes and back, lengths, and the spare rule.
+-- The slots of an image, one after another: bytes to slots and back, slots to bytes and back, and lengths.
 use Prim.Native.Nat.{ℕ, zero, suc, _+_, _*_, _-_, _/_, _%_, _<_, _≤_}
 use mathlib.Core.Path.{_≡_, refl, sym, ap, ap₂, _∙_}
 use mathlib.Core.Bool.{true, _&&_}
 use mathlib.Core.List.{List, [], _∷_, _++_, append-assoc}
 use native.Mathlib.Nat.{add-zero, suc-ne-zero}
-use native.Mathlib.Decide.{decLt}
 use native.Mathlib.Omega.{arith}
 use borrow.Author.Tests.{leb-true, le-leb, eqb-true, eqb-false, ne-eqb}
 use lib.Dec.{leb, eqb}
-use lib.ListN.{length, take, drop, length-append, length-drop, take-append-drop, List·getD-eq-default}
+use lib.ListN.{length, take, drop, length-append, length-drop, take-append-drop}
 use lib.Seq.{take-add, length-take-le, take-append-seam, drop-append-seam, drop-drop}
-use Rattle.wire.specs.Lists.{Bytes, each}
+use Rattle.wire.specs.Lists.{Bytes}
 use Rattle.wire.specs.Numbers.{encodeNumber}
-use Rattle.wire.proofs.Lists.{split, and-both, each-intro, each-at, bytes-take, bytes-drop, bytes-append, bytes-nil}
+use Rattle.wire.proofs.Lists.{split, and-both, bytes-take, bytes-drop, bytes-append, bytes-nil}
 use Rattle.wire.proofs.Numbers.{encode-decode, decode-encode, encode-bytes}
-use Rattle.machine.specs.State.{Slot, unused, used, slotAt, isUnused, spareOf}
-use Rattle.machine.specs.Valid.{ValidSlot, SparesUnused}
+use Rattle.machine.specs.State.{Slot, unused, used, slotAt}
+use Rattle.machine.specs.Valid.{fieldsInRange, mailInRange, ValidSlot}
+use Rattle.machine.proofs.Rules.{task-facts}
 use Rattle.machine.proofs.Mailbox.{mailbox-64}
 use Rattle.image.specs.Refusal.{unless, short}
-use Rattle.image.specs.Record.{slotOf, recordBytes, fieldsInRange, mailInRange, recordNumber}
-use Rattle.image.specs.Image.{recordLength, recordOf, behind, skip, slotsOf, isRecordLength, slotNumber, slotsNumber, sparesUnused, slotBytes, slotsBytes}
+use Rattle.image.specs.Record.{slotOf, recordBytes, recordNumber}
+use Rattle.image.specs.Image.{recordLength, recordOf, behind, skip, slotsOf, isRecordLength, slotNumber, slotsNumber, slotBytes, slotsBytes}
 use Rattle.image.proofs.Refusal.{then-left, then-right, then-none, then-le, unless-le, short-le, unless-none, short-none, long-enough}
 use Rattle.image.proofs.Record.{task-back, task-length, slot-forth, record-bytes, record-valid, valid-record}
 
@@ -57,7 +57,7 @@ length-is k =
 valid-length : (n s : ℕ) (x : Slot) → ValidSlot n s x → isRecordLength (length (recordBytes x)) ≡ true
 unfolding isRecordLength
 valid-length n s unused ok = refl
-valid-length n s (used t) ok = ap isRecordLength (task-length n s t ok) ∙ length-is (length (t .mailbox)) ∙ le-leb _ 64 (mailbox-64 (t .mailbox) (ok .mailbox))
+valid-length n s (used t) ok = ap isRecordLength (task-length n s t ok) ∙ length-is (length (t .mailbox)) ∙ le-leb _ 64 (mailbox-64 (t .mailbox) (task-facts n s t ok .mailbox))
 
 -- ---- bytes to slots and back
 
@@ -238,27 +238,3 @@ module _ (n : ℕ) (few : n ≤ 256) where
       let r = recordBytes x in
       bytes-append (slotBytes x) (slotsBytes xs) (bytes-append (encodeNumber 2 (length r)) r (encode-bytes 2 (length r)) (record-bytes n s x (first s x xs ok)))
       (slots-bytes (s + 1) xs (later s x xs ok))
-
--- ---- the spare rule as a test and as a fact
-
-unused-is : (x : Slot) → isUnused x ≡ true → x ≡ unused
-unused-is unused e = refl
-unused-is (used t) e = cc
-
-module _ (ss : List Slot) where
-  pub spares-fact : length ss ≡ 16 → sparesUnused ss ≡ true → SparesUnused ss
-  unfolding sparesUnused
-  spares-fact n e s j lt le =
-      elim (decLt s 16) [
-        | yes h ↦
-            let inner = each-at 16 (λ s. each (spareOf (slotAt ss s)) (λ d. isUnused (slotAt ss (s + 1 + d)))) e s h in
-            let d : s + 1 + (j - s - 1) ≡ j = omega arith in
-            rw d at (unused-is (slotAt ss (s + 1 + (j - s - 1))) (each-at (spareOf (slotAt ss s)) (λ d. isUnused (slotAt ss (s + 1 + d))) inner (j - s - 1) (omega arith)))
-        | no h ↦ absurd (omega (arith, ap spareOf (List·getD-eq-default ss unused {n = s} (omega arith))))
-      ]
-
-  pub spares-test : SparesUnused ss → sparesUnused ss ≡ true
-  unfolding sparesUnused
-  spares-test h =
-      each-intro 16 (λ s. each (spareOf (slotAt ss s)) (λ d. isUnused (slotAt ss (s + 1 + d))))
-      (λ s l. each-intro (spareOf (slotAt ss s)) (λ d. isUnused (slotAt ss (s + 1 + d))) (λ d m. ap isUnused (h s (s + 1 + d) (omega arith) (omega arith))))

@@ -16,40 +16,40 @@ message label = record { label = label; sender = 0; value = 0 }
 abbrev pub image : List Slot → List ℕ
 image slots = imageBytes (record { program = 0 ∷ 0 ∷ 0 ∷ 0 ∷ []; turnSlot = 0; slots = slots })
 
-abbrev pub none : List Slot
-none = replicate 16 unused
+abbrev pub allUnused : List Slot
+allUnused = replicate 16 unused
 
--- slot 3 is used
-abbrev pub third : Task → List Slot
-third t = set none 3 (used t)
+-- only slot 3 is used
+abbrev pub withSlot3 : Task → List Slot
+withSlot3 t = set allUnused 3 (used t)
 
 -- four messages of each label below n
-abbrev pub fours : ℕ → List Message
-fours zero = []
-fours (suc n) = replicate 4 (message n) ++ fours n
+abbrev pub fourOfEach : ℕ → List Message
+fourOfEach zero = []
+fourOfEach (suc n) = replicate 4 (message n) ++ fourOfEach n
 
 -- 256 instructions and sixteen tasks of 64 messages
-abbrev pub longest : List ℕ
-longest = imageBytes (record { program = replicate 1024 0; turnSlot = 0; slots = replicate 16 (used (task 0 (fours 16))) })
+abbrev pub longestImage : List ℕ
+longestImage = imageBytes (record { program = replicate 1024 0; turnSlot = 0; slots = replicate 16 (used (task 0 (fourOfEach 16))) })
 
 pub record Examples : Type 0 where
   -- "The shortest image has 40 bytes"
-  pub shortest : (imageNumber (image none) ≡ 0) × (length (image none) ≡ 40)
+  pub shortest : (imageNumber (image allUnused) ≡ 0) × (length (image allUnused) ≡ 40)
   -- "the longest 7,796"
-  pub full : (imageNumber longest ≡ 0) × (length longest ≡ 7796)
+  pub longest : (imageNumber longestImage ≡ 0) × (length longestImage ≡ 7796)
   -- 3 to 8 and 11, in the shortest image
-  pub short : imageNumber (take 39 (image none)) ≡ 3
-  pub version : imageNumber (set (image none) 0 2) ≡ 4
-  pub programLength : imageNumber (set (image none) 2 6) ≡ 5
-  pub instruction : imageNumber (set (image none) 3 0x0D) ≡ 6
-  pub turnSlot : imageNumber (set (image none) 7 16) ≡ 7
-  pub recordLength : imageNumber (set (image none) 9 36) ≡ 8
-  pub tail : imageNumber (image none ++ (0 ∷ [])) ≡ 11
+  pub short : imageNumber (take 39 (image allUnused)) ≡ 3
+  pub version : imageNumber (set (image allUnused) 0 2) ≡ 4
+  pub programLength : imageNumber (set (image allUnused) 2 6) ≡ 5
+  pub instruction : imageNumber (set (image allUnused) 3 0x0D) ≡ 6
+  pub turnSlot : imageNumber (set (image allUnused) 7 16) ≡ 7
+  pub recordLength : imageNumber (set (image allUnused) 9 36) ≡ 8
+  pub tail : imageNumber (image allUnused ++ (0 ∷ [])) ≡ 11
   -- "4 messages of one label accepted, 5 refused with 10."
-  pub mail : (imageNumber (image (third (task 0 (replicate 4 (message 2))))) ≡ 0) × (imageNumber (image (third (task 0 (replicate 5 (message 2))))) ≡ 10)
+  pub mail : (imageNumber (image (withSlot3 (task 0 (replicate 4 (message 2))))) ≡ 0) × (imageNumber (image (withSlot3 (task 0 (replicate 5 (message 2))))) ≡ 10)
   -- "Spare 12 in slot 3 accepted, 13 refused with 9."
-  pub spare : (imageNumber (image (third (task 12 []))) ≡ 0) × (imageNumber (image (third (task 13 []))) ≡ 9)
+  pub spare : (imageNumber (image (withSlot3 (task 12 []))) ≡ 0) × (imageNumber (image (withSlot3 (task 13 []))) ≡ 9)
   -- "Slot 3 with spare 2: slot 5 used gives 12, slot 6 used is accepted."
-  pub estate : (imageNumber (image (set (third (task 2 [])) 5 (used (task 0 [])))) ≡ 12) × (imageNumber (image (set (third (task 2 [])) 6 (used (task 0 [])))) ≡ 0)
+  pub estate : (imageNumber (image (set (withSlot3 (task 2 [])) 5 (used (task 0 [])))) ≡ 12) × (imageNumber (image (set (withSlot3 (task 2 [])) 6 (used (task 0 [])))) ≡ 0)
   -- 11 ahead of 12
-  pub order : imageNumber (image (set (third (task 2 [])) 5 (used (task 0 []))) ++ (0 ∷ [])) ≡ 11
+  pub order : imageNumber (image (set (withSlot3 (task 2 [])) 5 (used (task 0 []))) ++ (0 ∷ [])) ≡ 11

@@ -4,10 +4,10 @@ use mathlib.Core.Bool.{Bool, cond, _&&_, _||_}
 use mathlib.Core.List.{List, [], _∷_, _++_}
 use lib.Dec.{leb, eqb}
 use lib.ListN.{length, getD, take, drop}
-use Rattle.wire.specs.Lists.{each}
 use Rattle.wire.specs.Numbers.{decodeNumber, encodeNumber}
 use Rattle.instruction.specs.Program.{count, allLegal}
-use Rattle.machine.specs.State.{Slot, State, slotAt, spareOf, isUnused}
+use Rattle.machine.specs.State.{Slot, State}
+use Rattle.machine.specs.Valid.{isProgramLength, isTurnSlot, sparesUnused}
 use Rattle.image.specs.Refusal.{_then_, unless, short}
 use Rattle.image.specs.Record.{mailboxAt, messageSize, slotOf, recordBytes, recordNumber}
 
@@ -40,10 +40,6 @@ slotsPart b = drop (slotsAt b) b
 unfoldable pub versionNumber : List ℕ → ℕ
 versionNumber b = short 1 b then unless (eqb (getD b 0 0) 1) 4
 
--- a multiple of 4 from 4 to 1,024
-unfoldable pub isProgramLength : ℕ → Bool
-isProgramLength l = eqb (l % 4) 0 && leb 4 l && leb l 1024
-
 -- 5 program length, 6 instruction
 unfoldable pub programNumber : List ℕ → ℕ
 programNumber b =
@@ -54,7 +50,7 @@ programNumber b =
 
 -- 7 turn slot
 unfoldable pub turnSlotNumber : List ℕ → ℕ
-turnSlotNumber b = short (slotsAt b) b then unless (leb (turnSlotOf b) 15) 7
+turnSlotNumber b = short (slotsAt b) b then unless (isTurnSlot (turnSlotOf b)) 7
 
 -- ---- the slots: a length (2) and a record of that length each
 
@@ -82,7 +78,7 @@ slotsOf (suc k) b = slotOf (recordOf b) ∷ slotsOf k (behind b)
 unfoldable pub isRecordLength : ℕ → Bool
 isRecordLength l = eqb l 0 || (leb mailboxAt l && eqb ((l - mailboxAt) % messageSize) 0 && leb ((l - mailboxAt) / messageSize) 64)
 
--- slot s, in front of b: 8 record length, 3, then 9 and 10
+-- slot s, in front of b: its length (3, 8 record length), its record (3), the task in it (9, 10)
 unfoldable pub slotNumber : ℕ → ℕ → List ℕ → ℕ
 slotNumber s n b =
     short 2 b
@@ -98,10 +94,6 @@ slotsNumber (suc k) s n b = slotNumber s n b then slotsNumber k (s + 1) n (behin
 -- 11 tail: bytes after slot 15
 unfoldable pub tailNumber : List ℕ → ℕ
 tailNumber b = unless (eqb (length (skip 16 (slotsPart b))) 0) 11
-
--- slots s+1 to s+k of each task in slot s with spare k are unused
-unfoldable pub sparesUnused : List Slot → Bool
-sparesUnused ss = each 16 (λ s. each (spareOf (slotAt ss s)) (λ d. isUnused (slotAt ss (s + 1 + d))))
 
 -- 12 estate: a used slot lies in another task's spare
 unfoldable pub spareNumber : List ℕ → ℕ

@@ -1,13 +1,10 @@
 -- A slot's record: its layout, the task in it, the task's bytes, and the numbers 9 and 10.
-use Prim.Native.Nat.{ℕ, zero, suc, _+_, _/_}
-use mathlib.Core.Bool.{Bool, _&&_}
+use Prim.Native.Nat.{ℕ, zero, suc, _/_}
 use mathlib.Core.List.{List, [], _∷_, _++_}
-use lib.Dec.{leb}
 use lib.ListN.{length, getD, drop}
-use Rattle.wire.specs.Lists.{each, all}
 use Rattle.wire.specs.Numbers.{decodeNumber, encodeNumber}
-use Rattle.machine.specs.State.{lastSender, Message, Task, Slot, unused, used}
-use Rattle.machine.specs.Turn.{ofLabel}
+use Rattle.machine.specs.State.{Message, Task, Slot, unused, used}
+use Rattle.machine.specs.Valid.{fieldsInRange, mailInRange}
 use Rattle.image.specs.Refusal.{_then_, unless}
 
 -- ---- the layout: where each field begins, and the size of a message
@@ -86,21 +83,8 @@ abbrev pub recordBytes : Slot → List ℕ
 recordBytes unused = []
 recordBytes (used t) = taskBytes t
 
--- ---- what is wrong with a task in slot s, with a program of n instructions
+-- ---- what is wrong with a slot: 9 task field, 10 mail
 
--- kind, label and place in range, and s + spare at most 15
-abbrev pub fieldsInRange : ℕ → ℕ → Task → Bool
-fieldsInRange s n t = leb 1 (t .kind) && leb (t .kind) 5 && leb (t .label) 15 && leb (t .pc) n && leb (s + t .spare) 15
-
--- message label and sender in range
-abbrev pub addressed : Message → Bool
-addressed m = leb (m .label) 15 && leb (m .sender) lastSender
-
--- and no five messages of one label
-abbrev pub mailInRange : List Message → Bool
-mailInRange ms = all addressed ms && each 16 (λ l. leb (length (ofLabel l ms)) 4)
-
--- 9 task field, 10 mail
 abbrev pub recordNumber : ℕ → ℕ → Slot → ℕ
 recordNumber s n unused = 0
 recordNumber s n (used t) = unless (fieldsInRange s n t) 9 then unless (mailInRange (t .mailbox)) 10

@@ -1,3 +1,4 @@
+pub mod Rules
 pub mod Mailbox
 pub mod Effect
 pub mod Spare

@@ -7,7 +7,8 @@ use Rattle.wire.specs.Lists.{Every}
 use Rattle.label.specs.Label.{flows, join}
 use Rattle.label.proofs.Order.{DownClosed, label-order, flows-15}
 use Rattle.machine.specs.State.{Message, Slot, unused, used, State, slotAt}
-use Rattle.machine.specs.Valid.{ValidMessage, ValidSlot, Valid}
+use Rattle.machine.specs.Valid.{Valid}
+use Rattle.machine.proofs.Rules.{MessageFacts, SlotFacts, slot-facts}
 use Rattle.machine.specs.Machine.{turns, view}
 use Rattle.machine.proofs.Valid as Valid
 use Rattle.machine.proofs.View.{AllSeen, view-all}
@@ -39,14 +40,14 @@ turns-same v = Turn.turns-same flows join label-order (λ l. flows l v) (observe
 
 -- ---- label 15
 
-mailbox-seen : (ms : List Message) → Every ValidMessage ms → Every (λ m. flows (m .label) 15 ≡ true) ms
+mailbox-seen : (ms : List Message) → Every MessageFacts ms → Every (λ m. flows (m .label) 15 ≡ true) ms
 mailbox-seen [] h = tt
 mailbox-seen (m ∷ ms) h = (flows-15 (m .label) (h .0 .label), mailbox-seen ms (h .1))
 
-slot-seen : (n s : ℕ) (x : Slot) → ValidSlot n s x → AllSeen (λ l. flows l 15) x
+slot-seen : (n s : ℕ) (x : Slot) → SlotFacts n s x → AllSeen (λ l. flows l 15) x
 slot-seen n s unused h = tt
 slot-seen n s (used t) h = (flows-15 (t .label) (h .label), mailbox-seen (t .mailbox) (h .mailbox .each))
 
 -- the observer 15 sees everything
 pub view-15 : (s : State) → Valid s → view 15 s ≡ s
-view-15 s ok = view-all (λ l. flows l 15) s (λ i. slot-seen _ i (slotAt (s .slots) i) (ok .tasks i))
+view-15 s ok = view-all (λ l. flows l 15) s (λ i. slot-seen _ i (slotAt (s .slots) i) (slot-facts _ i (slotAt (s .slots) i) (ok .tasks i)))

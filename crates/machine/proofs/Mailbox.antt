@@ -12,25 +12,25 @@ use Rattle.wire.specs.Lists.{Every, keep, dropFirst}
 use Rattle.wire.proofs.Lists.{split, every-append, every-keep, every-dropFirst, keep-append, keep-keep-le, keep-dropFirst-le}
 use Rattle.machine.specs.State.{Message}
 use Rattle.machine.specs.Turn.{ofLabel, hasRoom}
-use Rattle.machine.specs.Valid.{ValidMessage, ValidMailbox}
+use Rattle.machine.proofs.Rules.{MessageFacts, MailboxFacts}
 
-module _ (ms : List Message) (ok : ValidMailbox ms) where
-  pub mailbox-keep : (p : Message → Bool) → ValidMailbox (keep p ms)
+module _ (ms : List Message) (ok : MailboxFacts ms) where
+  pub mailbox-keep : (p : Message → Bool) → MailboxFacts (keep p ms)
   mailbox-keep p =
       record {
-        each = every-keep ValidMessage p ms (ok .each);
+        each = every-keep MessageFacts p ms (ok .each);
         four = λ l h. omega (arith, keep-keep-le (λ m. eqb (m .label) l) p ms, ok .four l h);
       }
 
-  pub mailbox-dropFirst : (p : Message → Bool) → ValidMailbox (dropFirst p ms)
+  pub mailbox-dropFirst : (p : Message → Bool) → MailboxFacts (dropFirst p ms)
   mailbox-dropFirst p =
       record {
-        each = every-dropFirst ValidMessage p ms (ok .each);
+        each = every-dropFirst MessageFacts p ms (ok .each);
         four = λ l h. omega (arith, keep-dropFirst-le (λ m. eqb (m .label) l) p ms, ok .four l h);
       }
 
-  pub mailbox-append : (m : Message) → ValidMessage m → hasRoom (m .label) ms ≡ true → ValidMailbox (ms ++ (m ∷ []))
-  mailbox-append m g room = record { each = every-append ValidMessage ms (m ∷ []) (ok .each) (g, tt); four = four }
+  pub mailbox-append : (m : Message) → MessageFacts m → hasRoom (m .label) ms ≡ true → MailboxFacts (ms ++ (m ∷ []))
+  mailbox-append m g room = record { each = every-append MessageFacts ms (m ∷ []) (ok .each) (g, tt); four = four }
     where
       four : (l : ℕ) → l ≤ 15 → length (ofLabel l (ms ++ (m ∷ []))) ≤ 4
       four l h =
@@ -40,7 +40,7 @@ module _ (ms : List Message) (ok : ValidMailbox ms) where
           rw e (omega arith))
           (λ e. rw e (omega (arith, ok .four l h))))
 
-pub mailbox-nil : ValidMailbox []
+pub mailbox-nil : MailboxFacts []
 mailbox-nil = record { each = tt; four = λ l h. omega arith }
 
 -- ---- at most 64
@@ -69,16 +69,16 @@ module _ (m : Message) (ms : List Message) where
         | no e ↦ rw (ih (omega arith), ne-eqb (m .label) n e) (omega arith)
       ]
 
-below-all : (ms : List Message) → Every ValidMessage ms → countBelow 16 ms ≡ length ms
+below-all : (ms : List Message) → Every MessageFacts ms → countBelow 16 ms ≡ length ms
 unfolding countBelow
 below-all [] h = refl
 below-all (m ∷ ms) h = below-own m ms 16 (omega (arith, h .0 .label)) ∙ ap suc (below-all ms (h .1))
 
-below-four : (n : ℕ) (ms : List Message) → n ≤ 16 → ValidMailbox ms → countBelow n ms ≤ 4 * n
+below-four : (n : ℕ) (ms : List Message) → n ≤ 16 → MailboxFacts ms → countBelow n ms ≤ 4 * n
 unfolding countBelow
 below-four zero ms h ok = omega arith
 below-four (suc n) ms h ok = omega (arith, below-four n ms (omega arith) ok, ok .four n (omega arith))
 
 -- a mailbox that keeps the limit of each label holds at most 64 messages
-pub mailbox-64 : (ms : List Message) → ValidMailbox ms → length ms ≤ 64
+pub mailbox-64 : (ms : List Message) → MailboxFacts ms → length ms ≤ 64
 mailbox-64 ms ok = omega (arith, below-all ms (ok .each), below-four 16 ms (omega arith) ok)

@@ -15,13 +15,13 @@ use Rattle.machine.specs.State.{Message, Task, Slot, unused, used, slotA
 use Rattle.machine.specs.Effect.{Action, quiet, deliver, spawn, Outcome}
 use Rattle.machine.specs.Turn.{hasRoom, receive, perform, applied}
 use Rattle.machine.specs.View.{viewSlot}
-use Rattle.machine.specs.Valid.{SparesUnused}
+use Rattle.machine.proofs.Rules.{SparesFree}
 use Rattle.machine.proofs.Effect.{Allowed, Contained}
 
 pub record Spares (ss : List Slot) : Type 0 where
   pub sixteen : length ss ≡ 16
   pub fits : (s : ℕ) → s ≤ 15 → s + spareOf (slotAt ss s) ≤ 15
-  pub free : SparesUnused ss
+  pub free : SparesFree ss
 
 -- ---- slots that take up no more than before
 

@@ -3,10 +3,10 @@ use Prim.Native.Nat.{ℕ, zero, suc, _+_, _-_, _*_, _^_, _≤_, _<_}
 use mathlib.Core.Path.{_≡_, refl}
 use mathlib.Core.Bool.{Bool, _&&_}
 use mathlib.Core.Option.{Option, none, some}
-use mathlib.Core.List.{List, [], _∷_, _++_}
+use mathlib.Core.List.{List, [], _∷_, _++_, map}
 use native.Mathlib.Nat.{mod-lt}
 use native.Mathlib.Omega.{arith}
-use borrow.Author.Tests.{leb-true}
+use borrow.Author.Tests.{leb-true, le-leb}
 use lib.Dec.{leb, eqb}
 use lib.ListN.{getD, set, replicate, length-set, List·getD-map}
 use Rattle.wire.specs.Lists.{Bytes, keep, dropFirst}
@@ -22,32 +22,33 @@ use Rattle.instruction.proofs.Table.{Sound}
 use Rattle.instruction.proofs.Program.{at-below, at-sound, at-bytes}
 use Rattle.machine.specs.State.{Message, Task, Slot, unused, used, State, slotAt, spareOf, withKind, withLabel, withSpare, withPc, withMailbox, register, withRegister, next}
 use Rattle.machine.specs.Effect.{Action, quiet, deliver, spawn, Outcome, alone, childOf, childSlot, receivable, oldest, taken, execute, carriedOut, outcome}
-use Rattle.machine.specs.Turn.{hasRoom, receive, perform, applied, step, turn, turns}
+use Rattle.machine.specs.Turn.{hasRoom, receive, perform, applied, successor, step, turn, turns}
 use Rattle.machine.specs.View.{viewSlot, view}
-use Rattle.machine.specs.Valid.{ValidMessage, ValidMailbox, ValidTask, ValidSlot, Valid}
+use Rattle.machine.specs.Valid.{Valid}
+use Rattle.machine.proofs.Rules.{MessageFacts, MailboxFacts, TaskFacts, SlotFacts, slot-facts, slot-valid, spares-free, spares-test}
 use Rattle.machine.proofs.Mailbox.{mailbox-keep, mailbox-dropFirst, mailbox-append, mailbox-nil}
 use Rattle.machine.proofs.Effect.{outcome-contained}
 use Rattle.machine.proofs.Spare.{Spares, spares-view, spares-applied}
 
 -- ---- a task with one field changed
 
-module _ (n s : ℕ) (t : Task) (ok : ValidTask n s t) where
-  kind-ok : (k : ℕ) → 1 ≤ k → k ≤ 5 → ValidTask n s (withKind k t)
+module _ (n s : ℕ) (t : Task) (ok : TaskFacts n s t) where
+  kind-ok : (k : ℕ) → 1 ≤ k → k ≤ 5 → TaskFacts n s (withKind k t)
   kind-ok k h g = record { kind-low = h; kind-high = g; label = ok .label; spare = ok .spare; pc = ok .pc; registers = ok .registers; words = ok .words; mailbox = ok .mailbox }
 
-  label-ok : (l : ℕ) → l ≤ 15 → ValidTask n s (withLabel l t)
+  label-ok : (l : ℕ) → l ≤ 15 → TaskFacts n s (withLabel l t)
   label-ok l h = record { kind-low = ok .kind-low; kind-high = ok .kind-high; label = h; spare = ok .spare; pc = ok .pc; registers = ok .registers; words = ok .words; mailbox = ok .mailbox }
 
-  spare-ok : (k : ℕ) → k ≤ t .spare → ValidTask n s (withSpare k t)
+  spare-ok : (k : ℕ) → k ≤ t .spare → TaskFacts n s (withSpare k t)
   spare-ok k h = record { kind-low = ok .kind-low; kind-high = ok .kind-high; label = ok .label; spare = omega (arith, ok .spare); pc = ok .pc; registers = ok .registers; words = ok .words; mailbox = ok .mailbox }
 
-  pc-ok : (x : ℕ) → x ≤ n → ValidTask n s (withPc x t)
+  pc-ok : (x : ℕ) → x ≤ n → TaskFacts n s (withPc x t)
   pc-ok x h = record { kind-low = ok .kind-low; kind-high = ok .kind-high; label = ok .label; spare = ok .spare; pc = h; registers = ok .registers; words = ok .words; mailbox = ok .mailbox }
 
-  mailbox-ok : (ms : List Message) → ValidMailbox ms → ValidTask n s (withMailbox ms t)
+  mailbox-ok : (ms : List Message) → MailboxFacts ms → TaskFacts n s (withMailbox ms t)
   mailbox-ok ms h = record { kind-low = ok .kind-low; kind-high = ok .kind-high; label = ok .label; spare = ok .spare; pc = ok .pc; registers = ok .registers; words = ok .words; mailbox = h }
 
-  register-ok : (a x : ℕ) → x < 2 ^ 32 → ValidTask n s (withRegister a x t)
+  register-ok : (a x : ℕ) → x < 2 ^ 32 → TaskFacts n s (withRegister a x t)
   register-ok a x h = record {
     kind-low = ok .kind-low;
     kind-high = ok .kind-high;
@@ -59,20 +60,20 @@ module _ (n s : ℕ) (t : Task) (ok : ValidTask n s t) where
     mailbox = ok .mailbox;
   }
 
-  next-ok : t .pc < n → ValidTask n s (next t)
+  next-ok : t .pc < n → TaskFacts n s (next t)
   next-ok h = pc-ok (t .pc + 1) (omega arith)
 
 -- ---- one task's outcome
 
 -- the action, by the slot that it is for
-abbrev ValidAction : ℕ → Action → Type 0
-ValidAction n quiet = Unit {0}
-ValidAction n (deliver j m) = ValidMessage m
-ValidAction n (spawn j c) = ValidTask n j c
+abbrev ActionFacts : ℕ → Action → Type 0
+ActionFacts n quiet = Unit {0}
+ActionFacts n (deliver j m) = MessageFacts m
+ActionFacts n (spawn j c) = TaskFacts n j c
 
-record ValidOutcome (n s : ℕ) (o : Outcome) : Type 0 where
-  pub task : ValidTask n s (o .task)
-  pub action : ValidAction n (o .action)
+record OutcomeFacts (n s : ℕ) (o : Outcome) : Type 0 where
+  pub task : TaskFacts n s (o .task)
+  pub action : ActionFacts n (o .action)
 
 zeros-low : (k a : ℕ) → getD (replicate k 0) a 0 < 2 ^ 32
 zeros-low zero a = omega arith
@@ -83,11 +84,11 @@ child-words : (s a : ℕ) → s ≤ 15 → getD (s ∷ replicate 7 0) a 0 < 2 ^ 
 child-words s zero h = omega arith
 child-words s (suc a) h = zeros-low 7 a
 
-module _ (flows : ℕ → ℕ → Bool) (join : ℕ → ℕ → ℕ) (order : Order flows join) (n s : ℕ) (t : Task) (ok : ValidTask n s t) where
-  alone-ok : (t′ : Task) → ValidTask n s t′ → ValidOutcome n s (alone t′)
+module _ (flows : ℕ → ℕ → Bool) (join : ℕ → ℕ → ℕ) (order : Order flows join) (n s : ℕ) (t : Task) (ok : TaskFacts n s t) where
+  alone-ok : (t′ : Task) → TaskFacts n s t′ → OutcomeFacts n s (alone t′)
   alone-ok t′ h = record { task = h; action = tt }
 
-  child-ok : (b c : ℕ) → b < n → 1 ≤ c → c ≤ t .spare → ValidTask n (childSlot s t c) (childOf s t b c)
+  child-ok : (b c : ℕ) → b < n → 1 ≤ c → c ≤ t .spare → TaskFacts n (childSlot s t c) (childOf s t b c)
   child-ok b c h p q = record {
     kind-low = omega arith;
     kind-high = omega arith;
@@ -99,16 +100,16 @@ module _ (flows : ℕ → ℕ → Bool) (join : ℕ → ℕ → ℕ) (order : Or
     mailbox = mailbox-nil;
   }
 
-  oldest-ok : (m : Message) → oldest flows t ≡ some m → ValidMessage m
+  oldest-ok : (m : Message) → oldest flows t ≡ some m → MessageFacts m
   oldest-ok m e =
-      every-head ValidMessage (keep (receivable flows t) (t .mailbox)) m (every-keep ValidMessage (receivable flows t) (t .mailbox) (ok .mailbox .each)) e
+      every-head MessageFacts (keep (receivable flows t) (t .mailbox)) m (every-keep MessageFacts (receivable flows t) (t .mailbox) (ok .mailbox .each)) e
 
   module _ (before : t .pc < n) where
     -- register a gets x, and the place goes up
-    gets-ok : (a x : ℕ) → x < 2 ^ 32 → ValidOutcome n s (alone (next (withRegister a x t)))
+    gets-ok : (a x : ℕ) → x < 2 ^ 32 → OutcomeFacts n s (alone (next (withRegister a x t)))
     gets-ok a x h = alone-ok _ (next-ok n s _ (register-ok n s t ok a x h) before)
 
-    taken-ok : (a b : ℕ) (idle : Task) → ValidTask n s idle → (o : Option Message) → oldest flows t ≡ o → ValidOutcome n s (taken flows a b idle t o)
+    taken-ok : (a b : ℕ) (idle : Task) → TaskFacts n s idle → (o : Option Message) → oldest flows t ≡ o → OutcomeFacts n s (taken flows a b idle t o)
     taken-ok a b idle h none e = alone-ok idle h
     taken-ok a b idle h (some m) e =
         let g = oldest-ok m e in
@@ -116,7 +117,7 @@ module _ (flows : ℕ → ℕ → Bool) (join : ℕ → ℕ → ℕ) (order : Or
         let left = mailbox-ok n s t ok ms (mailbox-dropFirst (t .mailbox) (ok .mailbox) (receivable flows t)) in
         alone-ok _ (next-ok n s _ (register-ok n s _ (register-ok n s _ left a (m .value) (g .value)) b (m .sender) (omega (arith, g .sender))) before)
 
-    execute-ok : (i : Instruction) → Sound n i → Bytes (encode i) → ValidOutcome n s (execute flows join i s t)
+    execute-ok : (i : Instruction) → Sound n i → Bytes (encode i) → OutcomeFacts n s (execute flows join i s t)
     unfolding execute
     execute-ok End h g = alone-ok _ (kind-ok n s t ok 2 (omega arith) (omega arith))
     execute-ok (Set a b c) h g = gets-ok a (b * 256 + c) (omega (arith, g 2, g 3))
@@ -146,12 +147,12 @@ module _ (flows : ℕ → ℕ → Bool) (join : ℕ → ℕ → ℕ) (order : Or
         alone-ok _ (next-ok n s _ (register-ok n s _ (register-ok n s t ok a (t .label) (omega (arith, ok .label))) b s (omega (arith, ok .spare))) before)
 
   module _ (program : List ℕ) (bytes : Bytes program) (size : count program ≡ n) where
-    carriedOut-ok : (d : Decoded) → instructionAt program (t .pc) ≡ d → ValidOutcome n s (carriedOut flows join d s t)
+    carriedOut-ok : (d : Decoded) → instructionAt program (t .pc) ≡ d → OutcomeFacts n s (carriedOut flows join d s t)
     carriedOut-ok (Legal i) e =
         execute-ok (omega (arith, at-below program (t .pc) i e)) i (rw size at (at-sound program (t .pc) i e)) (at-bytes program (t .pc) i bytes e)
     carriedOut-ok Illegal e = alone-ok t ok
 
-    outcome-ok : ValidOutcome n s (outcome flows join program s t)
+    outcome-ok : OutcomeFacts n s (outcome flows join program s t)
     unfolding outcome
     outcome-ok =
         split (eqb (t .pc) (count program))
@@ -160,66 +161,82 @@ module _ (flows : ℕ → ℕ → Bool) (join : ℕ → ℕ → ℕ) (order : Or
 
 -- ---- all slots
 
-abbrev ValidSlots : ℕ → List Slot → Type 0
-ValidSlots n ss = (i : ℕ) → ValidSlot n i (slotAt ss i)
+abbrev SlotsFacts : ℕ → List Slot → Type 0
+SlotsFacts n ss = (i : ℕ) → SlotFacts n i (slotAt ss i)
 
 module _ (n : ℕ) where
-  set-ok : (ss : List Slot) (i : ℕ) (y : Slot) → ValidSlots n ss → ValidSlot n i y → ValidSlots n (set ss i y)
-  set-ok ss i y g h k = getD-set-at (ValidSlot n k) ss i k y unused (λ e. rw e h) (g k)
+  set-ok : (ss : List Slot) (i : ℕ) (y : Slot) → SlotsFacts n ss → SlotFacts n i y → SlotsFacts n (set ss i y)
+  set-ok ss i y g h k = getD-set-at (SlotFacts n k) ss i k y unused (λ e. rw e h) (g k)
 
-  receive-ok : (s : ℕ) (m : Message) → ValidMessage m → (x : Slot) → ValidSlot n s x → ValidSlot n s (receive m x)
+  receive-ok : (s : ℕ) (m : Message) → MessageFacts m → (x : Slot) → SlotFacts n s x → SlotFacts n s (receive m x)
   receive-ok s m g unused h = tt
   receive-ok s m g (used t) h =
       split (eqb (t .kind) 1 && hasRoom (m .label) (t .mailbox))
       (λ b. rw b (mailbox-ok n s t h (t .mailbox ++ (m ∷ [])) (mailbox-append (t .mailbox) (h .mailbox) m g (and-both (eqb (t .kind) 1) (hasRoom (m .label) (t .mailbox)) b .1))))
       (λ b. rw b h)
 
-  perform-ok : (a : Action) → ValidAction n a → (ss : List Slot) → ValidSlots n ss → ValidSlots n (perform a ss)
+  perform-ok : (a : Action) → ActionFacts n a → (ss : List Slot) → SlotsFacts n ss → SlotsFacts n (perform a ss)
   perform-ok quiet h ss g = g
   perform-ok (deliver j m) h ss g = set-ok ss j (receive m (slotAt ss j)) g (receive-ok j m h (slotAt ss j) (g j))
   perform-ok (spawn j c) h ss g = set-ok ss j (used c) g h
 
-  applied-ok : (s : ℕ) (o : Outcome) → ValidOutcome n s o → (ss : List Slot) → ValidSlots n ss → ValidSlots n (applied s o ss)
+  applied-ok : (s : ℕ) (o : Outcome) → OutcomeFacts n s o → (ss : List Slot) → SlotsFacts n ss → SlotsFacts n (applied s o ss)
   applied-ok s o h ss g = perform-ok (o .action) (h .action) (set ss s (used (o .task))) (set-ok ss s (used (o .task)) g (h .task))
 
-  viewSlot-ok : (sees : ℕ → Bool) (s : ℕ) (x : Slot) → ValidSlot n s x → ValidSlot n s (viewSlot sees x)
+  viewSlot-ok : (sees : ℕ → Bool) (s : ℕ) (x : Slot) → SlotFacts n s x → SlotFacts n s (viewSlot sees x)
   viewSlot-ok sees s unused h = tt
   viewSlot-ok sees s (used t) h =
       split (sees (t .label)) (λ e. rw e (mailbox-ok n s t h _ (mailbox-keep (t .mailbox) (h .mailbox) (λ m. sees (m .label))))) (λ e. rw e tt)
 
 -- ---- states
 
-slot-fits : (n s : ℕ) (x : Slot) → s ≤ 15 → ValidSlot n s x → s + spareOf x ≤ 15
-slot-fits n s unused l h = omega arith
-slot-fits n s (used t) l h = h .spare
+module _ (s : State) (ok : Valid s) where
+  tasks-facts : SlotsFacts (count (s .program)) (s .slots)
+  tasks-facts i = slot-facts (count (s .program)) i (slotAt (s .slots) i) (ok .tasks i)
 
-pub valid-spares : (s : State) → Valid s → Spares (s .slots)
-valid-spares s ok = record { sixteen = ok .sixteen; fits = λ i h. slot-fits (count (s .program)) i (slotAt (s .slots) i) h (ok .tasks i); free = ok .spares }
+  slot-fits : (i : ℕ) (x : Slot) → i ≤ 15 → SlotFacts (count (s .program)) i x → i + spareOf x ≤ 15
+  slot-fits i unused l f = omega arith
+  slot-fits i (used t) l f = f .spare
+
+  pub valid-spares : Spares (s .slots)
+  valid-spares = record {
+    sixteen = ok .sixteen;
+    fits = λ i l. slot-fits i (slotAt (s .slots) i) l (tasks-facts i);
+    free = spares-free (s .slots) (ok .sixteen) (ok .spares);
+  }
+
+  -- other slots, with the same program and a turn slot in range
+  with-slots : (turnSlot : ℕ) (ss : List Slot) → turnSlot ≤ 15 → SlotsFacts (count (s .program)) ss → Spares ss
+      → Valid (record { program = s .program; turnSlot = turnSlot; slots = ss })
+  with-slots turnSlot ss l f sp = record {
+    size = ok .size;
+    bytes = ok .bytes;
+    legal = ok .legal;
+    turnSlot = le-leb turnSlot 15 l;
+    sixteen = sp .sixteen;
+    tasks = λ i. slot-valid (count (s .program)) i (slotAt ss i) (f i);
+    spares = spares-test ss (sp .free);
+  }
 
 pub view-valid : (sees : ℕ → Bool) (s : State) → Valid s → Valid (view sees s)
 unfolding view
 view-valid sees s ok =
-    let sp = spares-view sees (s .slots) (valid-spares s ok) in
-    record {
-      program = ok .program;
-      turnSlot = ok .turnSlot;
-      sixteen = sp .sixteen;
-      tasks = λ i. rw (List·getD-map (viewSlot sees) (s .slots) i unused) (viewSlot-ok (count (s .program)) sees i (slotAt (s .slots) i) (ok .tasks i));
-      spares = sp .free;
-    }
+    with-slots s ok (s .turnSlot) (map (viewSlot sees) (s .slots)) (leb-true (s .turnSlot) 15 (ok .turnSlot))
+    (λ i. rw (List·getD-map (viewSlot sees) (s .slots) i unused) (viewSlot-ok (count (s .program)) sees i (slotAt (s .slots) i) (tasks-facts s ok i)))
+    (spares-view sees (s .slots) (valid-spares s ok))
 
 module _ (flows : ℕ → ℕ → Bool) (join : ℕ → ℕ → ℕ) (order : Order flows join) where
   -- one turn of the slot x where the turn slot is
   module _ (s : State) (ok : Valid s) where
-    step-ok : (x : Slot) → slotAt (s .slots) (s .turnSlot) ≡ x → ValidSlots (count (s .program)) (step flows join (s .program) (s .turnSlot) (s .slots) x)
-    step-ok unused at = ok .tasks
+    step-ok : (x : Slot) → slotAt (s .slots) (s .turnSlot) ≡ x → SlotsFacts (count (s .program)) (step flows join (s .program) (s .turnSlot) (s .slots) x)
+    step-ok unused at = tasks-facts s ok
     step-ok (used t) at =
         let n = count (s .program) in
         let i = s .turnSlot in
-        let valid : ValidTask n i t = rw at at (ok .tasks i) in
+        let facts : TaskFacts n i t = rw at at (tasks-facts s ok i) in
         split (eqb (t .kind) 1)
-        (λ e. rw e (applied-ok n i (outcome flows join (s .program) i t) (outcome-ok flows join order n i t valid (s .program) (ok .program .bytes) refl) (s .slots) (ok .tasks)))
-        (λ e. rw e (ok .tasks))
+        (λ e. rw e (applied-ok n i (outcome flows join (s .program) i t) (outcome-ok flows join order n i t facts (s .program) (ok .bytes) refl) (s .slots) (tasks-facts s ok)))
+        (λ e. rw e (tasks-facts s ok))
 
     step-spares : (x : Slot) → slotAt (s .slots) (s .turnSlot) ≡ x → Spares (step flows join (s .program) (s .turnSlot) (s .slots) x)
     step-spares unused at = valid-spares s ok
@@ -233,14 +250,7 @@ module _ (flows : ℕ → ℕ → Bool) (join : ℕ → ℕ → ℕ) (order : Or
   unfolding turn
   turn-valid s ok =
       let x = slotAt (s .slots) (s .turnSlot) in
-      let sp = step-spares s ok x refl in
-      record {
-        program = ok .program;
-        turnSlot = omega arith;
-        sixteen = sp .sixteen;
-        tasks = step-ok s ok x refl;
-        spares = sp .free;
-      }
+      with-slots s ok (successor (s .turnSlot)) (step flows join (s .program) (s .turnSlot) (s .slots) x) (omega arith) (step-ok s ok x refl) (step-spares s ok x refl)
 
   pub turns-valid : (n : ℕ) (s : State) → Valid s → Valid (turns flows join n s)
   unfolding turns

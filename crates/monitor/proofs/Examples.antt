@@ -7,13 +7,14 @@ use Rattle.instruction.specs.Program as Program
 use Rattle.machine.specs.Effect as Effect
 use Rattle.machine.specs.Turn as Turn
 use Rattle.machine.specs.View as View
+use Rattle.machine.specs.Valid as Valid
 use Rattle.image.specs.Record as Record
 use Rattle.image.specs.Image as Image
 use Rattle.monitor.specs.Calls as Calls
 use Rattle.monitor.specs.Examples.{Examples}
 
 pub examples : Examples
-unfolding Lists.each Label.flows Table.decode Program.instructionAt Effect.execute Effect.outcome Turn.turn Turn.turns Turn.busy View.view Program.allLegal Lists.all Record.messagesOf Record.wordsOf Record.mailboxBytes Record.wordsBytes Image.programLength Image.slotsPart Image.versionNumber Image.isProgramLength Image.programNumber Image.turnSlotNumber Image.recordLength Image.skip Image.slotsOf Image.isRecordLength Image.slotNumber Image.slotsNumber Image.tailNumber Image.sparesUnused Image.spareNumber Image.imageNumber Image.stateOf Image.slotsBytes Image.imageBytes Calls.callNumber
+unfolding Lists.each Label.flows Table.decode Program.instructionAt Effect.execute Effect.outcome Turn.turn Turn.turns Turn.busy View.view Program.allLegal Lists.all Record.messagesOf Record.wordsOf Record.mailboxBytes Record.wordsBytes Image.programLength Image.slotsPart Image.versionNumber Valid.isProgramLength Image.programNumber Image.turnSlotNumber Image.recordLength Image.skip Image.slotsOf Image.isRecordLength Image.slotNumber Image.slotsNumber Image.tailNumber Valid.sparesUnused Image.spareNumber Image.imageNumber Image.stateOf Image.slotsBytes Image.imageBytes Calls.callNumber
 examples = record {
   p1 = (refl, refl);
   p2 = (refl, refl);
