@@ -9,7 +9,11 @@ use Rattle.image.specs.Image as Image
 use Rattle.image.specs.Examples.{Examples}
 
 pub examples : Examples
-unfolding Lists.each Lists.all Table.decode Program.instructionAt Program.allLegal Record.messagesOf Record.wordsOf Record.mailboxBytes Record.wordsBytes Image.programLength Image.slotsPart Image.versionNumber Valid.isProgramLength Image.programNumber Image.turnSlotNumber Image.recordLength Image.skip Image.slotsOf Image.isRecordLength Image.slotNumber Image.slotsNumber Image.tailNumber Valid.sparesUnused Image.spareNumber Image.imageNumber Image.slotsBytes Image.imageBytes
+unfolding Lists.each Lists.all Table.decode Program.instructionAt Program.allLegal Record.messagesOf
+    Record.wordsOf Record.mailboxBytes Record.wordsBytes Image.programLength Image.slotsPart
+    Image.versionNumber Valid.isProgramLength Image.programNumber Image.turnSlotNumber Image.recordLength
+    Image.skip Image.slotsOf Image.isRecordLength Image.slotNumber Image.slotsNumber Image.tailNumber
+    Valid.sparesUnused Image.spareNumber Image.imageNumber Image.slotsBytes Image.imageBytes
 examples = record {
   shortest = (refl, refl);
   longest = (refl, refl);

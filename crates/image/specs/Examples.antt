@@ -16,12 +16,19 @@ message label = record { label = label; sender = 0; value = 0 }
 abbrev pub image : List Slot → List ℕ
 image slots = imageBytes (record { program = 0 ∷ 0 ∷ 0 ∷ 0 ∷ []; turnSlot = 0; slots = slots })
 
+abbrev pub numberOf : List Slot → ℕ
+numberOf slots = imageNumber (image slots)
+
 abbrev pub allUnused : List Slot
 allUnused = replicate 16 unused
 
 -- only slot 3 is used
 abbrev pub withSlot3 : Task → List Slot
 withSlot3 t = set allUnused 3 (used t)
+
+-- slot 3 has spare 2, and slot s is used too
+abbrev pub alsoUsed : ℕ → List Slot
+alsoUsed s = set (withSlot3 (task 2 [])) s (used (task 0 []))
 
 -- four messages of each label below n
 abbrev pub fourOfEach : ℕ → List Message
@@ -34,7 +41,7 @@ longestImage = imageBytes (record { program = replicate 1024 0; turnSlot = 0; sl
 
 pub record Examples : Type 0 where
   -- "The shortest image has 40 bytes"
-  pub shortest : (imageNumber (image allUnused) ≡ 0) × (length (image allUnused) ≡ 40)
+  pub shortest : (numberOf allUnused ≡ 0) × (length (image allUnused) ≡ 40)
   -- "the longest 7,796"
   pub longest : (imageNumber longestImage ≡ 0) × (length longestImage ≡ 7796)
   -- 3 to 8 and 11, in the shortest image
@@ -46,10 +53,10 @@ pub record Examples : Type 0 where
   pub recordLength : imageNumber (set (image allUnused) 9 36) ≡ 8
   pub tail : imageNumber (image allUnused ++ (0 ∷ [])) ≡ 11
   -- "4 messages of one label accepted, 5 refused with 10."
-  pub mail : (imageNumber (image (withSlot3 (task 0 (replicate 4 (message 2))))) ≡ 0) × (imageNumber (image (withSlot3 (task 0 (replicate 5 (message 2))))) ≡ 10)
+  pub mail : (numberOf (withSlot3 (task 0 (replicate 4 (message 2)))) ≡ 0) × (numberOf (withSlot3 (task 0 (replicate 5 (message 2)))) ≡ 10)
   -- "Spare 12 in slot 3 accepted, 13 refused with 9."
-  pub spare : (imageNumber (image (withSlot3 (task 12 []))) ≡ 0) × (imageNumber (image (withSlot3 (task 13 []))) ≡ 9)
+  pub spare : (numberOf (withSlot3 (task 12 [])) ≡ 0) × (numberOf (withSlot3 (task 13 [])) ≡ 9)
   -- "Slot 3 with spare 2: slot 5 used gives 12, slot 6 used is accepted."
-  pub estate : (imageNumber (image (set (withSlot3 (task 2 [])) 5 (used (task 0 [])))) ≡ 12) × (imageNumber (image (set (withSlot3 (task 2 [])) 6 (used (task 0 [])))) ≡ 0)
+  pub estate : (numberOf (alsoUsed 5) ≡ 12) × (numberOf (alsoUsed 6) ≡ 0)
   -- 11 ahead of 12
-  pub order : imageNumber (image (set (withSlot3 (task 2 [])) 5 (used (task 0 []))) ++ (0 ∷ [])) ≡ 11
+  pub order : imageNumber (image (alsoUsed 5) ++ (0 ∷ [])) ≡ 11

@@ -14,7 +14,12 @@ use Rattle.monitor.specs.Calls as Calls
 use Rattle.monitor.specs.Examples.{Examples}
 
 pub examples : Examples
-unfolding Lists.each Label.flows Table.decode Program.instructionAt Effect.execute Effect.outcome Turn.turn Turn.turns Turn.busy View.view Program.allLegal Lists.all Record.messagesOf Record.wordsOf Record.mailboxBytes Record.wordsBytes Image.programLength Image.slotsPart Image.versionNumber Valid.isProgramLength Image.programNumber Image.turnSlotNumber Image.recordLength Image.skip Image.slotsOf Image.isRecordLength Image.slotNumber Image.slotsNumber Image.tailNumber Valid.sparesUnused Image.spareNumber Image.imageNumber Image.stateOf Image.slotsBytes Image.imageBytes Calls.callNumber
+unfolding Lists.each Label.flows Table.decode Program.instructionAt Effect.execute Effect.outcome Turn.turn
+    Turn.turns Turn.busy View.view Program.allLegal Lists.all Record.messagesOf Record.wordsOf
+    Record.mailboxBytes Record.wordsBytes Image.programLength Image.slotsPart Image.versionNumber
+    Valid.isProgramLength Image.programNumber Image.turnSlotNumber Image.recordLength Image.skip Image.slotsOf
+    Image.isRecordLength Image.slotNumber Image.slotsNumber Image.tailNumber Valid.sparesUnused
+    Image.spareNumber Image.imageNumber Image.stateOf Image.slotsBytes Image.imageBytes Calls.callNumber
 examples = record {
   p1 = (refl, refl);
   p2 = (refl, refl);

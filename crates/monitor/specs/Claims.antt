@@ -96,7 +96,8 @@ isAccepted c image = eqb (turnsAnswer (c .n) image (c .out) .number) 0
 -- "The image that an accepted call writes is the next call's image; a refused call carries out no turn and leaves the
 -- image as it was."
 abbrev pub imageAfter : TurnCall → List ℕ → List ℕ
-imageAfter c image = cond (isAccepted c image) (take (turnsAnswer (c .n) image (c .out) .length) (turnsOutput (c .n) image (c .out))) image
+imageAfter c image =
+    cond (isAccepted c image) (take (turnsAnswer (c .n) image (c .out) .length) (turnsOutput (c .n) image (c .out))) image
 
 -- the image that a list ends with
 abbrev pub finalImage : List TurnCall → List ℕ → List ℕ
@@ -115,7 +116,8 @@ pub record EqualViews (v : ℕ) (image image′ : List ℕ) : Type 0 where
   pub right : Accepted image′
   pub told : (out out′ : List ℕ) → length out ≡ length out′ → viewAnswer v image out ≡ viewAnswer v image′ out′
   pub written : (out out′ : List ℕ) → length out ≡ length out′
-      → take (viewAnswer v image out .length) (viewOutput v image out) ≡ take (viewAnswer v image′ out′ .length) (viewOutput v image′ out′)
+      → take (viewAnswer v image out .length) (viewOutput v image out)
+      ≡ take (viewAnswer v image′ out′ .length) (viewOutput v image′ out′)
 
 -- "It is a single claim about two whole lists, for every v": any n and any output in each call, refused calls included
 abbrev pub Secrecy : Type 0
@@ -130,4 +132,5 @@ abbrev pub EqualViewsAreEqualBytes : Type 0
 EqualViewsAreEqualBytes =
     (v : ℕ) → v ≤ 15
     → (image image′ : List ℕ) → Accepted image → Accepted image′
-    → (EqualViews v image image′ → viewBytes v image ≡ viewBytes v image′) × (viewBytes v image ≡ viewBytes v image′ → EqualViews v image image′)
+    → (EqualViews v image image′ → viewBytes v image ≡ viewBytes v image′)
+    × (viewBytes v image ≡ viewBytes v image′ → EqualViews v image image′)

@@ -26,27 +26,38 @@ one s t = set (replicate 16 unused) s (used t)
 abbrev pub two : ℕ → Task → ℕ → Task → List Slot
 two s t s′ t′ = set (one s t) s′ (used t′)
 
--- B's tasks, and B with their send's label: 08 01 00 02, 00 00 00 00, 09 03 04 00, 00 00 00 00
+abbrev pub state : List ℕ → ℕ → List Slot → State
+state program turnSlot slots = record { program = program; turnSlot = turnSlot; slots = slots }
+
+-- ---- B: 08 01 00 02, 00 00 00 00, 09 03 04 00, 00 00 00 00; the send's label is left open
+
+abbrev pub program : ℕ → List ℕ
+program label = 0x08 ∷ 1 ∷ label ∷ 2 ∷ 0 ∷ 0 ∷ 0 ∷ 0 ∷ 0x09 ∷ 3 ∷ 4 ∷ 0 ∷ 0 ∷ 0 ∷ 0 ∷ 0 ∷ []
+
+-- slot 0, with its label left open, and slot 5
 abbrev pub sender : ℕ → Task
 sender label = withRegister 2 700 (withRegister 1 5 (task label 0 0))
 
 abbrev pub receiver : Task
 receiver = task 0 0 2
 
-abbrev pub bProgram : ℕ → List ℕ
-bProgram label = 0x08 ∷ 1 ∷ label ∷ 2 ∷ 0 ∷ 0 ∷ 0 ∷ 0 ∷ 0x09 ∷ 3 ∷ 4 ∷ 0 ∷ 0 ∷ 0 ∷ 0 ∷ 0 ∷ []
+-- B with slot 0's label, the send's label and the task in slot 5
+abbrev pub b : ℕ → ℕ → Task → State
+b label sent t = state (program sent) 0 (two 0 (sender label) 5 t)
 
-abbrev pub state : List ℕ → ℕ → List Slot → State
-state program turnSlot slots = record { program = program; turnSlot = turnSlot; slots = slots }
+-- the turn slot and the task in slot 5 once slot 0 has sent
+abbrev pub after : ℕ → ℕ → Task → State
+after sent turnSlot t = state (program sent) turnSlot (two 0 (next (sender 0)) 5 t)
 
-abbrev pub b : State
-b = state (bProgram 0) 0 (two 0 (sender 0) 5 receiver)
+-- the receiver with what slot 0 sent, and with four messages of label 2 and more behind them
+abbrev pub with700 : ℕ → Task
+with700 label = withMailbox (message label 0 700 ∷ []) receiver
 
--- the receiver with four waiting messages of label 2, and more behind them
 abbrev pub waiting : List Message → Task
 waiting more = withMailbox (replicate 4 (message 2 1 7) ++ more) receiver
 
--- a task alone in slot 3 with spare 4, before a sandbox of size n with place 0 that goes to register 0
+-- ---- a sandbox of size n: the child starts at place 0, and its slot goes to register 0
+
 abbrev pub sandbox : ℕ → List ℕ
 sandbox n = 0x0B ∷ 0 ∷ 0 ∷ n ∷ []
 
@@ -56,30 +67,38 @@ parent = task 0 4 0
 abbrev pub before : ℕ → State
 before n = state (sandbox n) 3 (one 3 parent)
 
+-- the parent of a child in slot s, with the spare that is left to it
+abbrev pub parentOf : ℕ → ℕ → Task
+parentOf s spare = next (withRegister 0 s (withSpare spare parent))
+
+-- register 0 gets register 0 less register 1
+abbrev pub subtract : List ℕ
+subtract = 0x04 ∷ 0 ∷ 0 ∷ 1 ∷ []
+
 -- ---- the rows
 
 pub record Examples : Type 0 where
   -- P1: label 5 flows to 7. Label 5 doesn't flow to 6.
   pub p1 : (flows 5 7 ≡ true) × (flows 5 6 ≡ false)
   -- P2: B after 1 turn: slot 0 place 1, slot 5 has (label 0, sender 0, value 700), busy 1.
-  pub p2 : (turns 1 b ≡ state (bProgram 0) 1 (two 0 (next (sender 0)) 5 (withMailbox (message 0 0 700 ∷ []) receiver))) × (busy 1 b ≡ 1)
+  pub p2 : (turns 1 (b 0 0 receiver) ≡ after 0 1 (with700 0)) × (busy 1 (b 0 0 receiver) ≡ 1)
   -- P3: B after 6 turns: register 3 of slot 5 is 700, register 4 is 0, place 3, no mail, turn slot 6, busy 2.
-  pub p3 : (turns 6 b ≡ state (bProgram 0) 6 (two 0 (next (sender 0)) 5 (next (withRegister 4 0 (withRegister 3 700 receiver))))) × (busy 6 b ≡ 2)
+  pub p3 : (turns 6 (b 0 0 receiver) ≡ after 0 6 (next (withRegister 4 0 (withRegister 3 700 receiver)))) × (busy 6 (b 0 0 receiver) ≡ 2)
   -- P4: B with slot 0 at label 1: after 1 turn kind 4, no mail.
-  pub p4 : turns 1 (state (bProgram 0) 0 (two 0 (sender 1) 5 receiver)) ≡ state (bProgram 0) 1 (two 0 (withKind 4 (sender 1)) 5 receiver)
+  pub p4 : turns 1 (b 1 0 receiver) ≡ state (program 0) 1 (two 0 (withKind 4 (sender 1)) 5 receiver)
   -- P5: B with the send's label 2: after 6 turns slot 5 is at place 2 with one message; its view for 0 has none.
-  pub p5 : (turns 6 (state (bProgram 2) 0 (b .slots)) ≡ state (bProgram 2) 6 (two 0 (next (sender 0)) 5 (withMailbox (message 2 0 700 ∷ []) receiver)))
-      × (view 0 (turns 6 (state (bProgram 2) 0 (b .slots))) ≡ state (bProgram 2) 6 (two 0 (next (sender 0)) 5 receiver))
+  pub p5 : (turns 6 (b 0 2 receiver) ≡ after 2 6 (with700 2)) × (view 0 (turns 6 (b 0 2 receiver)) ≡ after 2 6 receiver)
   -- P6: slot 3, spare 4, size 3: child in slot 5 with spare 2, parent spare 1.
-  pub p6 : turns 1 (before 3) ≡ state (sandbox 3) 4 (two 3 (next (withRegister 0 5 (withSpare 1 parent))) 5 (withRegister 0 3 (task 0 2 0)))
+  pub p6 : turns 1 (before 3) ≡ state (sandbox 3) 4 (two 3 (parentOf 5 1) 5 (withRegister 0 3 (task 0 2 0)))
   -- P7: the same with size 4: child in slot 4, spare 3, parent spare 0. Size 5: kind 5.
-  pub p7 : (turns 1 (before 4) ≡ state (sandbox 4) 4 (two 3 (next (withRegister 0 4 (withSpare 0 parent))) 4 (withRegister 0 3 (task 0 3 0))))
+  pub p7 : (turns 1 (before 4) ≡ state (sandbox 4) 4 (two 3 (parentOf 4 0) 4 (withRegister 0 3 (task 0 3 0))))
       × (turns 1 (before 5) ≡ state (sandbox 5) 4 (one 3 (withKind 5 parent)))
   -- P8: 0 − 1 gives 4,294,967,295.
-  pub p8 : turns 1 (state (0x04 ∷ 0 ∷ 0 ∷ 1 ∷ []) 0 (one 0 (withRegister 1 1 (task 0 0 0))))
-      ≡ state (0x04 ∷ 0 ∷ 0 ∷ 1 ∷ []) 1 (one 0 (next (withRegister 0 4294967295 (withRegister 1 1 (task 0 0 0)))))
+  pub p8 : turns 1 (state subtract 0 (one 0 (withRegister 1 1 (task 0 0 0))))
+      ≡ state subtract 1 (one 0 (next (withRegister 0 4294967295 (withRegister 1 1 (task 0 0 0)))))
   -- P9: four waiting messages of label 2, a fifth of label 2 dropped, one of label 0 kept.
-  pub p9 : (turns 1 (state (bProgram 2) 0 (two 0 (sender 0) 5 (waiting []))) ≡ state (bProgram 2) 1 (two 0 (next (sender 0)) 5 (waiting [])))
-      × (turns 1 (state (bProgram 0) 0 (two 0 (sender 0) 5 (waiting []))) ≡ state (bProgram 0) 1 (two 0 (next (sender 0)) 5 (waiting (message 0 0 700 ∷ []))))
+  pub p9 : (turns 1 (b 0 2 (waiting [])) ≡ after 2 1 (waiting []))
+      × (turns 1 (b 0 0 (waiting [])) ≡ after 0 1 (waiting (message 0 0 700 ∷ [])))
   -- "Order: 1 or 2 first, each only in the call that has that argument. Then the image from front to back [..] 13."
-  pub order : (viewNumber 16 [] [] ≡ 1) × (turnsNumber 1000001 [] [] ≡ 2) × (rewriteNumber [] [] ≡ 3) × (rewriteNumber (imageBytes b) [] ≡ 13)
+  pub order : (viewNumber 16 [] [] ≡ 1) × (turnsNumber 1000001 [] [] ≡ 2) × (rewriteNumber [] [] ≡ 3)
+      × (rewriteNumber (imageBytes (b 0 0 receiver)) [] ≡ 13)
