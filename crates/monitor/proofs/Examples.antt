@@ -31,4 +31,5 @@ examples = record {
   p8 = refl;
   p9 = (refl, refl);
   order = (refl, refl, refl, refl);
+  hidden = (refl, refl, refl, refl);
 }

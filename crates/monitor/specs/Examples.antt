@@ -1,14 +1,14 @@
--- The checked examples that 01 marks P, and the order of refusals over a call, as rows of one claim about the definitions.
-use Prim.Native.Nat.{ℕ}
+-- The checked examples that 01 marks P, and two rows more, as one claim about the definitions.
+use Prim.Native.Nat.{ℕ, _+_}
 use mathlib.Core.Path.{_≡_}
 use mathlib.Core.Bool.{true, false}
 use mathlib.Core.List.{List, [], _∷_, _++_}
-use lib.ListN.{set, replicate}
+use lib.ListN.{length, set, replicate}
 use Rattle.label.specs.Label.{flows}
 use Rattle.machine.specs.State.{Message, Task, Slot, unused, used, State, withKind, withSpare, withRegister, withMailbox, next}
 use Rattle.machine.specs.Machine.{turns, busy, view}
-use Rattle.image.specs.Image.{imageBytes}
-use Rattle.monitor.specs.Calls.{rewriteNumber, turnsNumber, viewNumber}
+use Rattle.image.specs.Image.{imageNumber, imageBytes}
+use Rattle.monitor.specs.Calls.{rewriteNumber, turnsNumber, viewBytes, viewNumber}
 
 -- ---- states
 
@@ -44,6 +44,10 @@ receiver = task 0 0 2
 -- B with slot 0's label, the send's label and the task in slot 5
 abbrev pub b : ℕ → ℕ → Task → State
 b label sent t = state (program sent) 0 (two 0 (sender label) 5 t)
+
+-- the image of B with this in slot 9
+abbrev pub bImage : Slot → List ℕ
+bImage x = imageBytes (state (program 0) 0 (set (two 0 (sender 0) 5 receiver) 9 x))
 
 -- the turn slot and the task in slot 5 once slot 0 has sent
 abbrev pub after : ℕ → ℕ → Task → State
@@ -101,4 +105,8 @@ pub record Examples : Type 0 where
       × (turns 1 (b 0 0 (waiting [])) ≡ after 0 1 (waiting (message 0 0 700 ∷ [])))
   -- "Order: 1 or 2 first, each only in the call that has that argument. Then the image from front to back [..] 13."
   pub order : (viewNumber 16 [] [] ≡ 1) × (turnsNumber 1000001 [] [] ≡ 2) × (rewriteNumber [] [] ≡ 3)
-      × (rewriteNumber (imageBytes (b 0 0 receiver)) [] ≡ 13)
+      × (rewriteNumber (bImage unused) [] ≡ 13)
+  -- The secrecy rule speaks of images that differ: B with and without a task of label 1 in slot 9 shows observer 0 the same.
+  pub hidden : (imageNumber (bImage (used (task 1 0 0))) ≡ 0) × (imageNumber (bImage unused) ≡ 0)
+      × (viewBytes 0 (bImage (used (task 1 0 0))) ≡ viewBytes 0 (bImage unused))
+      × (length (bImage (used (task 1 0 0))) ≡ 37 + length (bImage unused))
