@@ -27,5 +27,7 @@ examples = record {
   mail = (refl, refl);
   spare = (refl, refl);
   estate = (refl, refl);
+  whole = (refl, refl);
+  slots = (refl, refl, refl);
   order = refl;
 }

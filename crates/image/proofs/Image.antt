@@ -20,13 +20,13 @@ use Rattle.machine.specs.Valid.{isProgramLength, isTurnSlot, sparesUnused, Vali
 use Rattle.machine.proofs.Rules.{size-facts}
 use Rattle.image.specs.Refusal.{unless, short}
 use Rattle.image.specs.Record.{recordBytes}
-use Rattle.image.specs.Image.{programLength, programOf, turnSlotOf, slotsPart, versionNumber, programNumber, turnSlotNumber, recordLength, skip, slotsOf, slotsNumber, tailNumber, spareNumber, imageNumber, stateOf, recordPart, slotsBytes, imageBytes}
-use Rattle.image.proofs.Refusal.{then-left, then-right, then-le, unless-le, short-le, unless-none, short-none}
-use Rattle.image.proofs.Slots.{slots-back, slots-valid, slots-length, slots-number-low, length-slotsOf, slot-at, skip-drop, record-at, slots-number, slots-forth, slots-end, slots-bytes}
+use Rattle.image.specs.Image.{programLength, programOf, turnSlotOf, slotsPart, versionNumber, programNumber, turnSlotNumber, recordLength, span, skip, slotsOf, slotsNumber, tailNumber, spareNumber, imageNumber, stateOf, recordStart, recordPart, slotsBytes, imageBytes}
+use Rattle.image.proofs.Refusal.{then-left, then-right, then-holds, Listed, listed-unless, listed-short, unless-none, short-none}
+use Rattle.image.proofs.Slots.{slots-back, slots-valid, slots-length, slots-listed, length-slotsOf, slot-at, skip-drop, record-at, slots-number, slots-forth, slots-end, slots-bytes}
 
 -- ---- what acceptance says, part by part
 
-pub record Accepted (b : List ℕ) : Type 0 where
+pub record InOrder (b : List ℕ) : Type 0 where
   pub version : getD b 0 0 ≡ 1
   pub three : 3 ≤ length b
   pub size : isProgramLength (programLength b) ≡ true
@@ -37,9 +37,9 @@ pub record Accepted (b : List ℕ) : Type 0 where
   pub tail : skip 16 (slotsPart b) ≡ []
   pub spares : sparesUnused (slotsOf 16 (slotsPart b)) ≡ true
 
-pub accepted : (b : List ℕ) → imageNumber b ≡ 0 → Accepted b
+pub in-order : (b : List ℕ) → imageNumber b ≡ 0 → InOrder b
 unfolding imageNumber versionNumber programNumber turnSlotNumber tailNumber spareNumber
-accepted b e =
+in-order b e =
     let p = then-right (versionNumber b) _ e in
     let t = then-right (programNumber b) _ p in
     let s = then-right (turnSlotNumber b) _ t in
@@ -60,7 +60,7 @@ accepted b e =
       spares = unless-none (sparesUnused (slotsOf 16 (slotsPart b))) 11 (then-right (tailNumber b) _ r);
     }
 
-module _ (b : List ℕ) (a : Accepted b) where
+module _ (b : List ℕ) (a : InOrder b) where
   program-size : length (programOf b) ≡ programLength b
   program-size = length-take-le (programLength b) (drop 3 b) (rw length-drop (omega (arith, a .ahead)))
 
@@ -74,7 +74,7 @@ module _ (b : List ℕ) (a : Accepted b) where
       let d = length-drop (4 + programLength b) b in
       (omega (arith, a .ahead), omega (arith, a .ahead))
 
-module _ (b : List ℕ) (h : Bytes b) (a : Accepted b) where
+module _ (b : List ℕ) (h : Bytes b) (a : InOrder b) where
   -- ---- an accepted image holds a valid state
 
   pub accepted-valid : Valid (stateOf b)
@@ -86,7 +86,7 @@ module _ (b : List ℕ) (h : Bytes b) (a : Accepted b) where
         bytes = bytes-take (programLength b) (drop 3 b) (bytes-drop 3 b h);
         legal = a .legal;
         turnSlot = a .turnSlot;
-        sixteen = length-slotsOf 16 s;
+        slotCount = length-slotsOf 16 s;
         tasks = λ i. rw zero-add at (slots-valid 16 0 (count (programOf b)) s (bytes-drop (4 + programLength b) b h) (a .slots) i);
         spares = a .spares;
       }
@@ -125,32 +125,32 @@ module _ (b : List ℕ) (h : Bytes b) (a : Accepted b) where
 -- ---- a valid state's bytes are accepted and give it back
 
 module _ (s : State) (ok : Valid s) where
-  b : List ℕ
-  b = imageBytes s
+  bytes : List ℕ
+  bytes = imageBytes s
 
-  L : ℕ
-  L = length (s .program)
+  size : ℕ
+  size = length (s .program)
 
-  size-is : programLength b ≡ L
-  unfolding b L imageBytes programLength
+  size-is : programLength bytes ≡ size
+  unfolding bytes size imageBytes programLength
   size-is = decode-encode 2 (length (s .program)) (s .program ++ s .turnSlot ∷ slotsBytes (s .slots)) (omega (arith, size-facts (length (s .program)) (ok .size)))
 
-  program-is : take L (drop 3 b) ≡ s .program
-  unfolding b L imageBytes
+  program-is : take size (drop 3 bytes) ≡ s .program
+  unfolding bytes size imageBytes
   program-is = take-append-seam (s .program) (s .turnSlot ∷ slotsBytes (s .slots))
 
-  turnSlot-is : getD b (3 + L) 0 ≡ s .turnSlot
-  unfolding b L imageBytes
+  turnSlot-is : getD bytes (3 + size) 0 ≡ s .turnSlot
+  unfolding bytes size imageBytes
   turnSlot-is = sym (getD-drop 3 (imageBytes s) (length (s .program)) 0) ∙ getD-append-seam (s .program) (s .turnSlot) (slotsBytes (s .slots)) 0
 
-  slots-are : drop (4 + L) b ≡ slotsBytes (s .slots)
-  unfolding b L imageBytes
+  slots-are : drop (4 + size) bytes ≡ slotsBytes (s .slots)
+  unfolding bytes size imageBytes
   slots-are =
       let k : 4 + length (s .program) ≡ 3 + length (s .program) + 1 = omega arith in
       rw k (sym (drop-drop 1 (3 + length (s .program)) (imageBytes s)) ∙ ap (drop 1) (sym (drop-drop (length (s .program)) 3 (imageBytes s)) ∙ drop-append-seam (s .program) (s .turnSlot ∷ slotsBytes (s .slots))))
 
-  room : 4 + L ≤ length b
-  unfolding b L imageBytes
+  room : 4 + size ≤ length bytes
+  unfolding bytes size imageBytes
   room = omega (arith, length-append (s .program) (s .turnSlot ∷ slotsBytes (s .slots)))
 
   few : count (s .program) ≤ 256
@@ -169,10 +169,10 @@ module _ (s : State) (ok : Valid s) where
       (bytes-cons (s .turnSlot) (slotsBytes (s .slots)) (omega (arith, leb-true (s .turnSlot) 15 (ok .turnSlot))) (slots-bytes (count (s .program)) few 0 (s .slots) tasks-from-0)))
 
   slots-read : slotsOf 16 (slotsBytes (s .slots)) ≡ s .slots
-  slots-read = ap (λ (k : ℕ). slotsOf k (slotsBytes (s .slots))) (sym (ok .sixteen)) ∙ slots-forth (count (s .program)) few 0 (s .slots) tasks-from-0
+  slots-read = ap (λ (k : ℕ). slotsOf k (slotsBytes (s .slots))) (sym (ok .slotCount)) ∙ slots-forth (count (s .program)) few 0 (s .slots) tasks-from-0
 
   pub image-forth : stateOf (imageBytes s) ≡ s
-  unfolding b L stateOf slotsPart
+  unfolding bytes size stateOf slotsPart
   image-forth =
       let p : take (programLength (imageBytes s)) (drop 3 (imageBytes s)) ≡ s .program = rw size-is program-is in
       let t : getD (imageBytes s) (3 + programLength (imageBytes s)) 0 ≡ s .turnSlot = rw size-is turnSlot-is in
@@ -181,17 +181,17 @@ module _ (s : State) (ok : Valid s) where
 
   slots-none : slotsNumber 16 0 (count (s .program)) (slotsBytes (s .slots)) ≡ 0
   slots-none =
-      ap (λ (k : ℕ). slotsNumber k 0 (count (s .program)) (slotsBytes (s .slots))) (sym (ok .sixteen)) ∙ slots-number (count (s .program)) few 0 (s .slots) tasks-from-0
+      ap (λ (k : ℕ). slotsNumber k 0 (count (s .program)) (slotsBytes (s .slots))) (sym (ok .slotCount)) ∙ slots-number (count (s .program)) few 0 (s .slots) tasks-from-0
 
   tail-none : skip 16 (slotsBytes (s .slots)) ≡ []
-  tail-none = ap (λ (k : ℕ). skip k (slotsBytes (s .slots))) (sym (ok .sixteen)) ∙ slots-end (count (s .program)) few 0 (s .slots) tasks-from-0
+  tail-none = ap (λ (k : ℕ). skip k (slotsBytes (s .slots))) (sym (ok .slotCount)) ∙ slots-end (count (s .program)) few 0 (s .slots) tasks-from-0
 
-  version-is : getD b 0 0 ≡ 1
-  unfolding b imageBytes
+  version-is : getD bytes 0 0 ≡ 1
+  unfolding bytes imageBytes
   version-is = refl
 
   pub image-accepted : imageNumber (imageBytes s) ≡ 0
-  unfolding b L imageNumber versionNumber programNumber turnSlotNumber slotsPart tailNumber spareNumber
+  unfolding bytes size imageNumber versionNumber programNumber turnSlotNumber slotsPart tailNumber spareNumber
   image-accepted =
       let m = room in
       simp (
@@ -215,25 +215,25 @@ module _ (s : State) (ok : Valid s) where
 
 -- ---- an image's number is one of the table
 
-head-numbers-low : (b : List ℕ) → (versionNumber b ≤ 12) × (programNumber b ≤ 12) × (turnSlotNumber b ≤ 12)
-unfolding versionNumber programNumber turnSlotNumber
-head-numbers-low b = (
-  then-le 12 (short 1 b) _ (short-le 12 1 b (omega arith)) (unless-le 12 (eqb (getD b 0 0) 1) 4 (omega arith)),
-  then-le 12 (short 3 b) _ (short-le 12 3 b (omega arith))
-      (then-le 12 (unless (isProgramLength (programLength b)) 5) _ (unless-le 12 (isProgramLength (programLength b)) 5 (omega arith))
-      (then-le 12 (short (3 + programLength b) b) _ (short-le 12 (3 + programLength b) b (omega arith)) (unless-le 12 (allLegal (programOf b)) 6 (omega arith)))),
-  then-le 12 (short (4 + programLength b) b) _ (short-le 12 (4 + programLength b) b (omega arith)) (unless-le 12 (isTurnSlot (turnSlotOf b)) 7 (omega arith)),
-)
+program-listed : (b : List ℕ) → Listed (programNumber b)
+unfolding programNumber
+program-listed b =
+    let l = programLength b in
+    then-holds Listed (short 3 b) _ (listed-short 3 b)
+    (then-holds Listed (unless (isProgramLength l) 5) _ (listed-unless (isProgramLength l) 5 (omega arith) (omega arith))
+    (then-holds Listed (short (3 + l) b) _ (listed-short (3 + l) b) (listed-unless (allLegal (programOf b)) 6 (omega arith) (omega arith))))
 
-pub image-number-low : (b : List ℕ) → imageNumber b ≤ 12
-unfolding imageNumber tailNumber spareNumber
-image-number-low b =
-    let h = head-numbers-low b in
-    then-le 12 (versionNumber b) _ (h .0)
-    (then-le 12 (programNumber b) _ (h .1)
-    (then-le 12 (turnSlotNumber b) _ (h .2)
-    (then-le 12 (slotsNumber 16 0 (count (programOf b)) (slotsPart b)) _ (slots-number-low 16 0 (count (programOf b)) (slotsPart b))
-    (then-le 12 (tailNumber b) _ (unless-le 12 (eqb (length (skip 16 (slotsPart b))) 0) 11 (omega arith)) (unless-le 12 (sparesUnused (slotsOf 16 (slotsPart b))) 12 (omega arith))))))
+pub image-listed : (b : List ℕ) → Listed (imageNumber b)
+unfolding imageNumber versionNumber turnSlotNumber tailNumber spareNumber
+image-listed b =
+    let n = count (programOf b) in
+    then-holds Listed (versionNumber b) _ (then-holds Listed (short 1 b) _ (listed-short 1 b) (listed-unless (eqb (getD b 0 0) 1) 4 (omega arith) (omega arith)))
+    (then-holds Listed (programNumber b) _ (program-listed b)
+    (then-holds Listed (turnSlotNumber b) _
+    (then-holds Listed (short (4 + programLength b) b) _ (listed-short (4 + programLength b) b) (listed-unless (isTurnSlot (turnSlotOf b)) 7 (omega arith) (omega arith)))
+    (then-holds Listed (slotsNumber 16 0 n (slotsPart b)) _ (slots-listed 16 0 n (slotsPart b))
+    (then-holds Listed (tailNumber b) _ (listed-unless (eqb (length (skip 16 (slotsPart b))) 0) 11 (omega arith) (omega arith))
+    (listed-unless (sparesUnused (slotsOf 16 (slotsPart b))) 12 (omega arith) (omega arith))))))
 
 -- ---- the part that holds a record
 
@@ -242,7 +242,7 @@ pub record-part : (b : List ℕ) (s : ℕ) → Bytes b → imageNumber b ≡ 0 �
 unfolding recordPart stateOf slotsPart
 record-part b s h e l =
     rw (le-leb s 15 l, e, slot-at 16 s (slotsPart b) (omega arith))
-    (sym (record-at 16 s 0 (count (programOf b)) (slotsPart b) (bytes-drop (4 + programLength b) b h) (accepted b e .slots) (omega arith)))
+    (sym (record-at 16 s 0 (count (programOf b)) (slotsPart b) (bytes-drop (4 + programLength b) b h) (in-order b e .slots) (omega arith)))
 
 -- a slot above 15 has none, nor has a refused image
 pub record-above : (b : List ℕ) (s : ℕ) → (s ≤ 15 → ⊥) → recordPart b s ≡ []
@@ -253,13 +253,13 @@ pub record-refused : (b : List ℕ) (s : ℕ) → (imageNumber b ≡ 0 → ⊥) 
 unfolding recordPart
 record-refused b s h = rw (ne-eqb (imageNumber b) 0 h, and-false)
 
--- and it stands in the image
-pub record-inside : (b : List ℕ) (s : ℕ) → (start : ℕ) × (recordPart b s ≡ take (length (recordPart b s)) (drop start b))
-unfolding recordPart slotsPart
+-- and it stands in the image at its start
+pub record-inside : (b : List ℕ) (s : ℕ) → recordPart b s ≡ take (length (recordPart b s)) (drop (recordStart b s) b)
+unfolding recordPart recordStart slotsPart
 record-inside b s =
-    let k = skip-drop s (drop (4 + programLength b) b) in
-    let at : drop 2 (skip s (drop (4 + programLength b) b)) ≡ drop (4 + programLength b + k .0 + 2) b
-    = ap (drop 2) (k .1 ∙ drop-drop (k .0) (4 + programLength b) b) ∙ drop-drop 2 (4 + programLength b + k .0) b in
+    let part = drop (4 + programLength b) b in
+    let at : drop 2 (skip s part) ≡ drop (4 + programLength b + span s part + 2) b
+    = ap (drop 2) (skip-drop s part ∙ drop-drop (span s part) (4 + programLength b) b) ∙ drop-drop 2 (4 + programLength b + span s part) b in
     split (leb s 15 && eqb (imageNumber b) 0)
-    (λ e. (4 + programLength b + k .0 + 2, rw (e, ← at) (take-length-take (recordLength (skip s (drop (4 + programLength b) b))) (drop 2 (skip s (drop (4 + programLength b) b))))))
-    (λ e. (0, rw e))
+    (λ e. rw (e, ← at) (take-length-take (recordLength (skip s part)) (drop 2 (skip s part))))
+    (λ e. rw e)

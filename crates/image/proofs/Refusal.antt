@@ -1,5 +1,6 @@
 -- Laws of the first number met.
 use Prim.Native.Nat.{ℕ, zero, suc, _≤_}
+use mathlib.Core.Logic.{_≢_}
 use mathlib.Core.Path.{_≡_, refl}
 use mathlib.Core.Bool.{Bool, true, false}
 use mathlib.Core.List.{List}
@@ -21,18 +22,32 @@ then-right (suc x) y e = absurd (suc-ne-zero x e)
 pub then-none : (x y : ℕ) → x ≡ 0 → y ≡ 0 → (x then y) ≡ 0
 then-none x y e f = rw (e, f)
 
--- ---- bounds
+-- what holds of each number holds of the first met
+module _ (P : ℕ → Type 0) where
+  pub then-holds : (x y : ℕ) → P x → P y → P (x then y)
+  then-holds zero y h g = g
+  then-holds (suc x) y h g = h
 
-pub then-le : (k x y : ℕ) → x ≤ k → y ≤ k → (x then y) ≤ k
-then-le k zero y h g = g
-then-le k (suc x) y h g = h
+  pub unless-holds : (t : Bool) (x : ℕ) → P 0 → P x → P (unless t x)
+  unless-holds true x z h = z
+  unless-holds false x z h = h
 
-pub unless-le : (k : ℕ) (t : Bool) (x : ℕ) → x ≤ k → unless t x ≤ k
-unless-le k true x h = omega arith
-unless-le k false x h = h
+-- ---- the numbers of an image
 
-pub short-le : (k n : ℕ) (b : List ℕ) → 3 ≤ k → short n b ≤ k
-short-le k n b h = unless-le k (leb n (length b)) 3 h
+-- 0, or one of 3 to 12
+pub record Listed (x : ℕ) : Type 0 where
+  pub most : x ≤ 12
+  pub not-1 : x ≢ 1
+  pub not-2 : x ≢ 2
+
+pub listed-none : Listed 0
+listed-none = record { most = omega arith; not-1 = λ e. omega arith; not-2 = λ e. omega arith }
+
+pub listed-unless : (t : Bool) (x : ℕ) → 3 ≤ x → x ≤ 12 → Listed (unless t x)
+listed-unless t x l m = unless-holds Listed t x listed-none record { most = m; not-1 = λ e. omega arith; not-2 = λ e. omega arith }
+
+pub listed-short : (n : ℕ) (b : List ℕ) → Listed (short n b)
+listed-short n b = listed-unless (leb n (length b)) 3 (omega arith) (omega arith)
 
 -- ---- what no number says
 

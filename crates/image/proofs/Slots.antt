@@ -19,8 +19,8 @@ use Rattle.machine.proofs.Rules.{task-facts}
 use Rattle.machine.proofs.Mailbox.{mailbox-64}
 use Rattle.image.specs.Refusal.{unless, short}
 use Rattle.image.specs.Record.{slotOf, recordBytes, recordNumber}
-use Rattle.image.specs.Image.{recordLength, recordOf, behind, skip, slotsOf, isRecordLength, slotNumber, slotsNumber, slotBytes, slotsBytes}
-use Rattle.image.proofs.Refusal.{then-left, then-right, then-none, then-le, unless-le, short-le, unless-none, short-none, long-enough}
+use Rattle.image.specs.Image.{recordLength, recordOf, behind, span, skip, slotsOf, isRecordLength, slotNumber, slotsNumber, slotBytes, slotsBytes}
+use Rattle.image.proofs.Refusal.{then-left, then-right, then-none, then-holds, Listed, listed-none, listed-unless, listed-short, unless-none, short-none, long-enough}
 use Rattle.image.proofs.Record.{task-back, task-length, slot-forth, record-bytes, record-valid, valid-record}
 
 -- ---- lengths of records
@@ -141,13 +141,11 @@ slot-at zero i b h = absurd (omega arith)
 slot-at (suc k) zero b h = refl
 slot-at (suc k) (suc i) b h = slot-at k i (behind b) (omega arith)
 
--- it is a part of the bytes
-pub skip-drop : (k : ℕ) (b : List ℕ) → (start : ℕ) × (skip k b ≡ drop start b)
-unfolding skip
-skip-drop zero b = (0, refl)
-skip-drop (suc k) b =
-    let ih = skip-drop k (behind b) in
-    (2 + recordLength b + ih .0, ih .1 ∙ drop-drop (ih .0) (2 + recordLength b) b)
+-- where it stands
+pub skip-drop : (k : ℕ) (b : List ℕ) → skip k b ≡ drop (span k b) b
+unfolding skip span
+skip-drop zero b = refl
+skip-drop (suc k) b = skip-drop k (behind b) ∙ drop-drop (span k (behind b)) (2 + recordLength b) b
 
 -- and what the slot's task is written as
 pub record-at : (k i s n : ℕ) (b : List ℕ) → Bytes b → slotsNumber k s n b ≡ 0 → i < k → recordBytes (slotOf (recordOf (skip i b))) ≡ recordOf (skip i b)
@@ -161,22 +159,24 @@ record-at (suc k) (suc i) s n b h e l =
 
 -- ---- numbers
 
-record-number-low : (s n : ℕ) (x : Slot) → recordNumber s n x ≤ 12
-record-number-low s n unused = omega arith
-record-number-low s n (used t) = then-le 12 _ _ (unless-le 12 (fieldsInRange s n t) 9 (omega arith)) (unless-le 12 (mailInRange (t .mailbox)) 10 (omega arith))
+record-listed : (s n : ℕ) (x : Slot) → Listed (recordNumber s n x)
+record-listed s n unused = listed-none
+record-listed s n (used t) =
+    then-holds Listed (unless (fieldsInRange s n t) 9) _ (listed-unless (fieldsInRange s n t) 9 (omega arith) (omega arith))
+    (listed-unless (mailInRange (t .mailbox)) 10 (omega arith) (omega arith))
 
-slot-number-low : (s n : ℕ) (b : List ℕ) → slotNumber s n b ≤ 12
+slot-listed : (s n : ℕ) (b : List ℕ) → Listed (slotNumber s n b)
 unfolding slotNumber
-slot-number-low s n b =
+slot-listed s n b =
     let l = recordLength b in
-    then-le 12 (short 2 b) _ (short-le 12 2 b (omega arith))
-    (then-le 12 (unless (isRecordLength l) 8) _ (unless-le 12 (isRecordLength l) 8 (omega arith))
-    (then-le 12 (short (2 + l) b) _ (short-le 12 (2 + l) b (omega arith)) (record-number-low s n (slotOf (recordOf b)))))
+    then-holds Listed (short 2 b) _ (listed-short 2 b)
+    (then-holds Listed (unless (isRecordLength l) 8) _ (listed-unless (isRecordLength l) 8 (omega arith) (omega arith))
+    (then-holds Listed (short (2 + l) b) _ (listed-short (2 + l) b) (record-listed s n (slotOf (recordOf b)))))
 
-pub slots-number-low : (k s n : ℕ) (b : List ℕ) → slotsNumber k s n b ≤ 12
+pub slots-listed : (k s n : ℕ) (b : List ℕ) → Listed (slotsNumber k s n b)
 unfolding slotsNumber
-slots-number-low zero s n b = omega arith
-slots-number-low (suc k) s n b = then-le 12 (slotNumber s n b) _ (slot-number-low s n b) (slots-number-low k (s + 1) n (behind b))
+slots-listed zero s n b = listed-none
+slots-listed (suc k) s n b = then-holds Listed (slotNumber s n b) _ (slot-listed s n b) (slots-listed k (s + 1) n (behind b))
 
 -- ---- slots to bytes and back
 

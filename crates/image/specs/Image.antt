@@ -21,7 +21,7 @@ abbrev pub programAt : ℕ
 programAt = 3
 
 abbrev pub turnSlotAt : List ℕ → ℕ
-turnSlotAt b = 3 + programLength b
+turnSlotAt b = programAt + programLength b
 
 abbrev pub slotsAt : List ℕ → ℕ
 slotsAt b = 4 + programLength b
@@ -54,7 +54,7 @@ turnSlotNumber b = short (slotsAt b) b then unless (isTurnSlot (turnSlotOf b)) 7
 
 -- ---- the slots: a length (2) and a record of that length each
 
--- the length of the record in front of b, the record, and the bytes behind it
+-- the length of the record at the front of b, the record, and the bytes behind it
 unfoldable pub recordLength : List ℕ → ℕ
 recordLength b = decodeNumber 2 b
 
@@ -64,7 +64,11 @@ recordOf b = take (recordLength b) (drop 2 b)
 abbrev pub behind : List ℕ → List ℕ
 behind b = drop (2 + recordLength b) b
 
--- the bytes behind k slots
+-- how many bytes k slots take, and the bytes behind them
+unfoldable pub span : ℕ → List ℕ → ℕ
+span zero b = 0
+span (suc k) b = 2 + recordLength b + span k (behind b)
+
 unfoldable pub skip : ℕ → List ℕ → List ℕ
 skip zero b = b
 skip (suc k) b = skip k (behind b)
@@ -78,7 +82,7 @@ slotsOf (suc k) b = slotOf (recordOf b) ∷ slotsOf k (behind b)
 unfoldable pub isRecordLength : ℕ → Bool
 isRecordLength l = eqb l 0 || (leb mailboxAt l && eqb ((l - mailboxAt) % messageSize) 0 && leb ((l - mailboxAt) / messageSize) 64)
 
--- slot s, in front of b: its length (3, 8 record length), its record (3), the task in it (9, 10)
+-- slot s, at the front of b: its length (3, 8 record length), its record (3), the task in it (9, 10)
 unfoldable pub slotNumber : ℕ → ℕ → List ℕ → ℕ
 slotNumber s n b =
     short 2 b
@@ -114,6 +118,10 @@ imageNumber b =
 -- the state in an accepted image
 unfoldable pub stateOf : List ℕ → State
 stateOf b = record { program = programOf b; turnSlot = turnSlotOf b; slots = slotsOf 16 (slotsPart b) }
+
+-- where the record of slot s begins, behind its length
+unfoldable pub recordStart : List ℕ → ℕ → ℕ
+recordStart b s = slotsAt b + span s (slotsPart b) + 2
 
 -- the record of a slot: no bytes for an unused slot, a slot number above 15 or a refused image
 unfoldable pub recordPart : List ℕ → ℕ → List ℕ

@@ -1,5 +1,5 @@
 -- A slot's record: its layout, the task in it, the task's bytes, and the numbers 9 and 10.
-use Prim.Native.Nat.{ℕ, zero, suc, _/_}
+use Prim.Native.Nat.{ℕ, zero, suc, _+_, _*_, _/_}
 use mathlib.Core.List.{List, [], _∷_, _++_}
 use lib.ListN.{length, getD, drop}
 use Rattle.wire.specs.Numbers.{decodeNumber, encodeNumber}
@@ -25,7 +25,7 @@ abbrev pub registersAt : ℕ
 registersAt = 5
 
 abbrev pub mailboxAt : ℕ
-mailboxAt = 37
+mailboxAt = registersAt + 8 * 4
 
 abbrev pub messageSize : ℕ
 messageSize = 6

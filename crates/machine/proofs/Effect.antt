@@ -18,7 +18,7 @@ use Rattle.instruction.specs.Program.{count, instructionAt}
 use Rattle.instruction.proofs.Table.{Sound}
 use Rattle.instruction.proofs.Program.{at-sound}
 use Rattle.machine.specs.State.{Message, Task, register, withPc}
-use Rattle.machine.specs.Effect.{Action, quiet, deliver, spawn, Outcome, alone, receivable, oldest, taken, execute, carriedOut, outcome}
+use Rattle.machine.specs.Effect.{Action, noAction, deliver, spawn, Outcome, withoutAction, receivable, oldest, taken, execute, carriedOut, outcome}
 use Rattle.machine.specs.View.{viewTask}
 
 -- the outcome with the hidden messages of its task left out
@@ -28,7 +28,7 @@ viewOutcome sees o = record { task = viewTask sees (o .task); action = o .action
 module _ (flows : ℕ → ℕ → Bool) where
   -- a task t in slot s may become t′ and do this: send to labels that its own flows to, and split its spare for a child
   abbrev pub Allowed : ℕ → Task → Task → Action → Type 0
-  Allowed s t t′ quiet = t .spare ≡ t′ .spare
+  Allowed s t t′ noAction = t .spare ≡ t′ .spare
   Allowed s t t′ (deliver j m) = (t .spare ≡ t′ .spare) × (flows (t .label) (m .label) ≡ true)
   Allowed s t t′ (spawn j c) = (suc (s + t′ .spare) ≡ j) × (suc (t′ .spare + c .spare) ≡ t .spare) × (flows (t .label) (c .label) ≡ true)
 
@@ -79,44 +79,44 @@ module _ (flows : ℕ → ℕ → Bool) where
     -- ---- any task
     module _ (s : ℕ) (t : Task) where
       -- only the task itself changes, and neither its label nor its spare
-      alone-contained : (t′ : Task) → t .label ≡ t′ .label → t .spare ≡ t′ .spare → Contained s t (alone t′)
-      alone-contained t′ l k = record { rises = rw l (order .same (t′ .label)); allowed = omega arith }
+      withoutAction-contained : (t′ : Task) → t .label ≡ t′ .label → t .spare ≡ t′ .spare → Contained s t (withoutAction t′)
+      withoutAction-contained t′ l k = record { rises = rw l (order .same (t′ .label)); allowed = omega arith }
 
-      taken-contained : (a b : ℕ) (idle : Task) → Contained s t (alone idle) → (o : Option Message) → Contained s t (taken flows a b idle t o)
+      taken-contained : (a b : ℕ) (idle : Task) → Contained s t (withoutAction idle) → (o : Option Message) → Contained s t (taken flows a b idle t o)
       taken-contained a b idle h none = h
-      taken-contained a b idle h (some m) = alone-contained _ refl refl
+      taken-contained a b idle h (some m) = withoutAction-contained _ refl refl
 
       execute-contained : (n : ℕ) (i : Instruction) → Sound n i → Contained s t (execute flows join i s t)
       unfolding execute
-      execute-contained n End h = alone-contained _ refl refl
-      execute-contained n (Set a b c) h = alone-contained _ refl refl
-      execute-contained n (Copy a b) h = alone-contained _ refl refl
-      execute-contained n (Add a b c) h = alone-contained _ refl refl
-      execute-contained n (Subtract a b c) h = alone-contained _ refl refl
-      execute-contained n (Go a) h = alone-contained _ refl refl
+      execute-contained n End h = withoutAction-contained _ refl refl
+      execute-contained n (Set a b c) h = withoutAction-contained _ refl refl
+      execute-contained n (Copy a b) h = withoutAction-contained _ refl refl
+      execute-contained n (Add a b c) h = withoutAction-contained _ refl refl
+      execute-contained n (Subtract a b c) h = withoutAction-contained _ refl refl
+      execute-contained n (Go a) h = withoutAction-contained _ refl refl
       execute-contained n (Zero a b) h =
-          split (eqb (register t a) 0) (λ e. rw e (alone-contained _ refl refl)) (λ e. rw e (alone-contained _ refl refl))
+          split (eqb (register t a) 0) (λ e. rw e (withoutAction-contained _ refl refl)) (λ e. rw e (withoutAction-contained _ refl refl))
       execute-contained n (Raise a) h = record { rises = order .above (t .label) a; allowed = omega arith }
       execute-contained n (Send a b c) h =
           split (flows (t .label) b)
           (λ e. rw e record { rises = order .same (t .label); allowed = (omega arith, e) })
-          (λ e. rw e (alone-contained _ refl refl))
-      execute-contained n (Take a b) h = taken-contained a b t (alone-contained _ refl refl) (oldest flows t)
-      execute-contained n (Poll a b c) h = taken-contained a b (withPc c t) (alone-contained _ refl refl) (oldest flows t)
+          (λ e. rw e (withoutAction-contained _ refl refl))
+      execute-contained n (Take a b) h = taken-contained a b t (withoutAction-contained _ refl refl) (oldest flows t)
+      execute-contained n (Poll a b c) h = taken-contained a b (withPc c t) (withoutAction-contained _ refl refl) (oldest flows t)
       execute-contained n (Sandbox a b c) h =
           split (leb c (t .spare))
           (λ e. let fits : c ≤ t .spare = leb-true c (t .spare) e in
           rw e record { rises = order .same (t .label); allowed = (omega arith, omega arith, order .same (t .label)) })
-          (λ e. rw e (alone-contained _ refl refl))
-      execute-contained n (Identity a b) h = alone-contained _ refl refl
+          (λ e. rw e (withoutAction-contained _ refl refl))
+      execute-contained n (Identity a b) h = withoutAction-contained _ refl refl
 
       carriedOut-contained : (program : List ℕ) (d : Decoded) → instructionAt program (t .pc) ≡ d → Contained s t (carriedOut flows join d s t)
       carriedOut-contained program (Legal i) e = execute-contained (count program) i (at-sound program (t .pc) i e)
-      carriedOut-contained program Illegal e = alone-contained _ refl refl
+      carriedOut-contained program Illegal e = withoutAction-contained _ refl refl
 
       pub outcome-contained : (program : List ℕ) → Contained s t (outcome flows join program s t)
       unfolding outcome
       outcome-contained program =
           split (eqb (t .pc) (count program))
-          (λ e. rw e (alone-contained _ refl refl))
+          (λ e. rw e (withoutAction-contained _ refl refl))
           (λ e. rw e (carriedOut-contained program (instructionAt program (t .pc)) refl))

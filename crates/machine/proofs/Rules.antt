@@ -12,7 +12,7 @@ use Rattle.wire.specs.Lists.{each, all, Every}
 use Rattle.wire.proofs.Lists.{and-both, and-intro, each-intro, each-at, every-all}
 use Rattle.machine.specs.State.{lastSender, Message, Task, Slot, unused, used, slotAt, isUnused, spareOf, register}
 use Rattle.machine.specs.Turn.{ofLabel}
-use Rattle.machine.specs.Valid.{isProgramLength, isAddressed, mailInRange, sparesUnused, ValidTask, ValidSlot}
+use Rattle.machine.specs.Valid.{isProgramLength, messageInRange, mailInRange, sparesUnused, ValidTask, ValidSlot}
 
 -- ---- the program's length
 
@@ -34,17 +34,17 @@ pub record MailboxFacts (ms : List Message) : Type 0 where
   pub each : Every MessageFacts ms
   pub four : (l : ℕ) → l ≤ 15 → length (ofLabel l ms) ≤ 4
 
-messages-facts : (ms : List Message) → all isAddressed ms ≡ true → Every (λ m. m .value < 2 ^ 32) ms → Every MessageFacts ms
+messages-facts : (ms : List Message) → all messageInRange ms ≡ true → Every (λ m. m .value < 2 ^ 32) ms → Every MessageFacts ms
 unfolding all
 messages-facts [] e v = tt
 messages-facts (m ∷ ms) e v =
-    let e₂ = and-both (isAddressed m) (all isAddressed ms) e in
+    let e₂ = and-both (messageInRange m) (all messageInRange ms) e in
     let e₃ = and-both (leb (m .label) 15) (leb (m .sender) lastSender) (e₂ .0) in
     (record { label = leb-true _ _ (e₃ .0); sender = leb-true _ _ (e₃ .1); value = v .0 }, messages-facts ms (e₂ .1) (v .1))
 
 pub mailbox-facts : (ms : List Message) → mailInRange ms ≡ true → Every (λ m. m .value < 2 ^ 32) ms → MailboxFacts ms
 mailbox-facts ms e v =
-    let e₂ = and-both (all isAddressed ms) (each 16 (λ l. leb (length (ofLabel l ms)) 4)) e in
+    let e₂ = and-both (all messageInRange ms) (each 16 (λ l. leb (length (ofLabel l ms)) 4)) e in
     record {
       each = messages-facts ms (e₂ .0) v;
       four = λ l h. leb-true (length (ofLabel l ms)) 4 (each-at 16 (λ l. leb (length (ofLabel l ms)) 4) (e₂ .1) l (omega arith));
@@ -52,8 +52,8 @@ mailbox-facts ms e v =
 
 mailbox-test : (ms : List Message) → MailboxFacts ms → mailInRange ms ≡ true
 mailbox-test ms f =
-    and-intro (all isAddressed ms) (each 16 (λ l. leb (length (ofLabel l ms)) 4))
-    (every-all MessageFacts isAddressed (λ m h. and-intro (leb (m .label) 15) (leb (m .sender) lastSender) (le-leb _ _ (h .label)) (le-leb _ _ (h .sender))) ms (f .each))
+    and-intro (all messageInRange ms) (each 16 (λ l. leb (length (ofLabel l ms)) 4))
+    (every-all MessageFacts messageInRange (λ m h. and-intro (leb (m .label) 15) (leb (m .sender) lastSender) (le-leb _ _ (h .label)) (le-leb _ _ (h .sender))) ms (f .each))
     (each-intro 16 (λ l. leb (length (ofLabel l ms)) 4) (λ l h. le-leb (length (ofLabel l ms)) 4 (f .four l (omega arith))))
 
 values-of : (ms : List Message) → Every MessageFacts ms → Every (λ m. m .value < 2 ^ 32) ms

@@ -12,14 +12,14 @@ use lib.ListN.{length, set, length-set, length-map, List·getD-map, List·getD-e
 use lib.Seq.{getD-set-same, getD-set-other}
 use Rattle.wire.proofs.Lists.{split, getD-set-at}
 use Rattle.machine.specs.State.{Message, Task, Slot, unused, used, slotAt, spareOf}
-use Rattle.machine.specs.Effect.{Action, quiet, deliver, spawn, Outcome}
-use Rattle.machine.specs.Turn.{hasRoom, receive, perform, applied}
+use Rattle.machine.specs.Effect.{Action, noAction, deliver, spawn, Outcome}
+use Rattle.machine.specs.Turn.{hasRoom, enqueue, perform, applied}
 use Rattle.machine.specs.View.{viewSlot}
 use Rattle.machine.proofs.Rules.{SparesFree}
 use Rattle.machine.proofs.Effect.{Allowed, Contained}
 
 pub record Spares (ss : List Slot) : Type 0 where
-  pub sixteen : length ss ≡ 16
+  pub slotCount : length ss ≡ 16
   pub fits : (s : ℕ) → s ≤ 15 → s + spareOf (slotAt ss s) ≤ 15
   pub free : SparesFree ss
 
@@ -39,9 +39,9 @@ no-more-used t t′ h = record { spare = h; empty = λ e. cc }
 no-more-unused : (x : Slot) → NoMore x unused
 no-more-unused x = record { spare = omega arith; empty = λ e. refl }
 
-no-more-receive : (m : Message) (x : Slot) → NoMore x (receive m x)
-no-more-receive m unused = no-more-same unused
-no-more-receive m (used t) =
+no-more-enqueue : (m : Message) (x : Slot) → NoMore x (enqueue m x)
+no-more-enqueue m unused = no-more-same unused
+no-more-enqueue m (used t) =
     split (eqb (t .kind) 1 && hasRoom (m .label) (t .mailbox)) (λ b. rw b (no-more-used t _ (omega arith))) (λ b. rw b (no-more-same (used t)))
 
 no-more-view : (sees : ℕ → Bool) (x : Slot) → NoMore x (viewSlot sees x)
@@ -51,22 +51,22 @@ no-more-view sees (used t) =
 
 spares-within : (ss ss′ : List Slot) → Spares ss → length ss′ ≡ 16 → ((i : ℕ) → NoMore (slotAt ss i) (slotAt ss′ i)) → Spares ss′
 spares-within ss ss′ ok n w = record {
-  sixteen = n;
+  slotCount = n;
   fits = λ s h. omega (arith, w s .spare, ok .fits s h);
   free = λ s j lt le. w j .empty (ok .free s j lt (omega (arith, w s .spare)));
 }
 
 spares-set : (ss : List Slot) (i : ℕ) (y : Slot) → Spares ss → NoMore (slotAt ss i) y → Spares (set ss i y)
 spares-set ss i y ok w =
-    spares-within ss (set ss i y) ok (rw length-set (ok .sixteen))
+    spares-within ss (set ss i y) ok (rw length-set (ok .slotCount))
     (λ n. getD-set-at (NoMore (slotAt ss n)) ss i n y unused (λ h. rw h w) (no-more-same (slotAt ss n)))
 
 pub spares-deliver : (ss : List Slot) (j : ℕ) (m : Message) → Spares ss → Spares (perform (deliver j m) ss)
-spares-deliver ss j m ok = spares-set ss j (receive m (slotAt ss j)) ok (no-more-receive m (slotAt ss j))
+spares-deliver ss j m ok = spares-set ss j (enqueue m (slotAt ss j)) ok (no-more-enqueue m (slotAt ss j))
 
 pub spares-view : (sees : ℕ → Bool) (ss : List Slot) → Spares ss → Spares (map (viewSlot sees) ss)
 spares-view sees ss ok =
-    spares-within ss (map (viewSlot sees) ss) ok (rw length-map (ok .sixteen))
+    spares-within ss (map (viewSlot sees) ss) ok (rw length-map (ok .slotCount))
     (λ i. rw (List·getD-map (viewSlot sees) ss i unused) (no-more-view sees (slotAt ss i)))
 
 -- ---- a sandbox: the parent in slot i keeps the first part of its spare, and the child in slot j stands ahead of the rest
@@ -83,11 +83,11 @@ module _ (ss : List Slot) (ok : Spares ss) (i j : ℕ) (t t′ c : Task) (at : s
 
   after-j : slotAt after j ≡ used c
   unfolding after
-  after-j = getD-set-same (set ss i (used t′)) j (used c) unused (rw length-set (omega (arith, ok .sixteen, bound)))
+  after-j = getD-set-same (set ss i (used t′)) j (used c) unused (rw length-set (omega (arith, ok .slotCount, bound)))
 
   after-i : slotAt after i ≡ used t′
   unfolding after
-  after-i = getD-set-other (set ss i (used t′)) j i (used c) unused (omega arith) ∙ getD-set-same ss i (used t′) unused (omega (arith, ok .sixteen))
+  after-i = getD-set-other (set ss i (used t′)) j i (used c) unused (omega arith) ∙ getD-set-same ss i (used t′) unused (omega (arith, ok .slotCount))
 
   after-other : (n : ℕ) → n ≢ i → n ≢ j → slotAt after n ≡ slotAt ss n
   unfolding after
@@ -133,7 +133,7 @@ module _ (ss : List Slot) (ok : Spares ss) (i j : ℕ) (t t′ c : Task) (at : s
   spares-spawn : Spares (set (set ss i (used t′)) j (used c))
   unfolding after
   spares-spawn = record {
-    sixteen = rw (length-set, length-set) (ok .sixteen);
+    slotCount = rw (length-set, length-set) (ok .slotCount);
     fits = λ a h. after-fits a h (ℕ-discrete a j) (ℕ-discrete a i);
     free = λ a b lt le. after-free a b lt le (ℕ-discrete a j) (ℕ-discrete a i);
   }
@@ -147,14 +147,14 @@ module _ (ss : List Slot) (ok : Spares ss) (i : ℕ) (t : Task) (at : slotAt ss 
     where
       go : Dec (i < 16) → i ≤ 15
       go (yes h) = omega arith
-      go (no h) = let z : _≡_ {A = ℕ} 0 1 = cc (List·getD-eq-default ss unused {n = i} (omega (arith, ok .sixteen))) in omega arith
+      go (no h) = let z : _≡_ {A = ℕ} 0 1 = cc (List·getD-eq-default ss unused {n = i} (omega (arith, ok .slotCount))) in omega arith
 
   module _ (flows : ℕ → ℕ → Bool) where
     spares-own : (t′ : Task) → t .spare ≡ t′ .spare → Spares (set ss i (used t′))
     spares-own t′ h = spares-set ss i (used t′) ok (rw at (no-more-used t t′ (omega arith)))
 
     spares-perform : (t′ : Task) (a : Action) → Allowed flows i t t′ a → Spares (perform a (set ss i (used t′)))
-    spares-perform t′ quiet h = spares-own t′ h
+    spares-perform t′ noAction h = spares-own t′ h
     spares-perform t′ (deliver j m) h = spares-deliver (set ss i (used t′)) j m (spares-own t′ (h .0))
     spares-perform t′ (spawn j c) h = spares-spawn ss ok i j t t′ c at used-low (h .0) (h .1)
 

@@ -11,13 +11,13 @@ use lib.Seq.{map-set-same, getD-set-other}
 use Rattle.wire.proofs.Lists.{split}
 use Rattle.label.proofs.Order.{Order, DownClosed}
 use Rattle.machine.specs.State.{Task, Slot, unused, used, State, slotAt}
-use Rattle.machine.specs.Effect.{Action, quiet, deliver, spawn, Outcome, outcome}
-use Rattle.machine.specs.Turn.{receive, perform, applied, step, turn, turns}
+use Rattle.machine.specs.Effect.{Action, noAction, deliver, spawn, Outcome, outcome}
+use Rattle.machine.specs.Turn.{enqueue, perform, applied, step, turn, turns}
 use Rattle.machine.specs.View.{viewSlot, view}
 use Rattle.machine.specs.Valid.{Valid}
 use Rattle.machine.proofs.Effect.{Allowed, Contained, outcome-view, outcome-contained}
 use Rattle.machine.proofs.Spare.{Spares}
-use Rattle.machine.proofs.View.{slots-twice, view-twice, slot-hidden, receive-hidden, applied-view}
+use Rattle.machine.proofs.View.{slots-twice, view-twice, slot-hidden, enqueue-hidden, applied-view}
 use Rattle.machine.proofs.Valid.{valid-spares, view-valid, turns-valid}
 
 -- ---- a task that is hidden
@@ -29,10 +29,10 @@ module _ (flows : ℕ → ℕ → Bool) (sees : ℕ → Bool) (down : DownClosed
 
   perform-hidden : (t′ : Task) (a : Action) → Allowed flows s t t′ a
       → map (viewSlot sees) (perform a (set ss s (used t′))) ≡ map (viewSlot sees) (set ss s (used t′))
-  perform-hidden t′ quiet h = refl
+  perform-hidden t′ noAction h = refl
   perform-hidden t′ (deliver j m) h =
       let rs = set ss s (used t′) in
-      map-set-same (viewSlot sees) rs j (receive m (slotAt rs j)) unused (receive-hidden sees m (slotAt rs j) (above (m .label) (h .1)))
+      map-set-same (viewSlot sees) rs j (enqueue m (slotAt rs j)) unused (enqueue-hidden sees m (slotAt rs j) (above (m .label) (h .1)))
   perform-hidden t′ (spawn j c) h =
       let free : slotAt (set ss s (used t′)) j ≡ unused
       = getD-set-other ss s j (used t′) unused (omega arith) ∙ ok .free s j (omega arith) (rw at (omega arith)) in

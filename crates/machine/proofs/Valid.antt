@@ -21,8 +21,8 @@ use Rattle.instruction.specs.Program.{count, instructionAt}
 use Rattle.instruction.proofs.Table.{Sound}
 use Rattle.instruction.proofs.Program.{at-below, at-sound, at-bytes}
 use Rattle.machine.specs.State.{Message, Task, Slot, unused, used, State, slotAt, spareOf, withKind, withLabel, withSpare, withPc, withMailbox, register, withRegister, next}
-use Rattle.machine.specs.Effect.{Action, quiet, deliver, spawn, Outcome, alone, childOf, childSlot, receivable, oldest, taken, execute, carriedOut, outcome}
-use Rattle.machine.specs.Turn.{hasRoom, receive, perform, applied, successor, step, turn, turns}
+use Rattle.machine.specs.Effect.{Action, noAction, deliver, spawn, Outcome, withoutAction, childOf, childSlot, receivable, oldest, taken, execute, carriedOut, outcome}
+use Rattle.machine.specs.Turn.{hasRoom, enqueue, perform, applied, successor, step, turn, turns}
 use Rattle.machine.specs.View.{viewSlot, view}
 use Rattle.machine.specs.Valid.{Valid}
 use Rattle.machine.proofs.Rules.{MessageFacts, MailboxFacts, TaskFacts, SlotFacts, slot-facts, slot-valid, spares-free, spares-test}
@@ -67,7 +67,7 @@ module _ (n s : ℕ) (t : Task) (ok : TaskFacts n s t) where
 
 -- the action, by the slot that it is for
 abbrev ActionFacts : ℕ → Action → Type 0
-ActionFacts n quiet = Unit {0}
+ActionFacts n noAction = Unit {0}
 ActionFacts n (deliver j m) = MessageFacts m
 ActionFacts n (spawn j c) = TaskFacts n j c
 
@@ -85,8 +85,8 @@ child-words s zero h = omega arith
 child-words s (suc a) h = zeros-low 7 a
 
 module _ (flows : ℕ → ℕ → Bool) (join : ℕ → ℕ → ℕ) (order : Order flows join) (n s : ℕ) (t : Task) (ok : TaskFacts n s t) where
-  alone-ok : (t′ : Task) → TaskFacts n s t′ → OutcomeFacts n s (alone t′)
-  alone-ok t′ h = record { task = h; action = tt }
+  withoutAction-ok : (t′ : Task) → TaskFacts n s t′ → OutcomeFacts n s (withoutAction t′)
+  withoutAction-ok t′ h = record { task = h; action = tt }
 
   child-ok : (b c : ℕ) → b < n → 1 ≤ c → c ≤ t .spare → TaskFacts n (childSlot s t c) (childOf s t b c)
   child-ok b c h p q = record {
@@ -106,32 +106,32 @@ module _ (flows : ℕ → ℕ → Bool) (join : ℕ → ℕ → ℕ) (order : Or
 
   module _ (before : t .pc < n) where
     -- register a gets x, and the place goes up
-    gets-ok : (a x : ℕ) → x < 2 ^ 32 → OutcomeFacts n s (alone (next (withRegister a x t)))
-    gets-ok a x h = alone-ok _ (next-ok n s _ (register-ok n s t ok a x h) before)
+    gets-ok : (a x : ℕ) → x < 2 ^ 32 → OutcomeFacts n s (withoutAction (next (withRegister a x t)))
+    gets-ok a x h = withoutAction-ok _ (next-ok n s _ (register-ok n s t ok a x h) before)
 
     taken-ok : (a b : ℕ) (idle : Task) → TaskFacts n s idle → (o : Option Message) → oldest flows t ≡ o → OutcomeFacts n s (taken flows a b idle t o)
-    taken-ok a b idle h none e = alone-ok idle h
+    taken-ok a b idle h none e = withoutAction-ok idle h
     taken-ok a b idle h (some m) e =
         let g = oldest-ok m e in
         let ms = dropFirst (receivable flows t) (t .mailbox) in
         let left = mailbox-ok n s t ok ms (mailbox-dropFirst (t .mailbox) (ok .mailbox) (receivable flows t)) in
-        alone-ok _ (next-ok n s _ (register-ok n s _ (register-ok n s _ left a (m .value) (g .value)) b (m .sender) (omega (arith, g .sender))) before)
+        withoutAction-ok _ (next-ok n s _ (register-ok n s _ (register-ok n s _ left a (m .value) (g .value)) b (m .sender) (omega (arith, g .sender))) before)
 
     execute-ok : (i : Instruction) → Sound n i → Bytes (encode i) → OutcomeFacts n s (execute flows join i s t)
     unfolding execute
-    execute-ok End h g = alone-ok _ (kind-ok n s t ok 2 (omega arith) (omega arith))
+    execute-ok End h g = withoutAction-ok _ (kind-ok n s t ok 2 (omega arith) (omega arith))
     execute-ok (Set a b c) h g = gets-ok a (b * 256 + c) (omega (arith, g 2, g 3))
     execute-ok (Copy a b) h g = gets-ok a (register t b) (ok .words b)
     execute-ok (Add a b c) h g = gets-ok a _ (mod-lt (register t b + register t c) (omega arith))
     execute-ok (Subtract a b c) h g = gets-ok a _ (mod-lt (register t b + 2 ^ 32 - register t c) (omega arith))
-    execute-ok (Go a) h g = alone-ok _ (pc-ok n s t ok a (omega arith))
+    execute-ok (Go a) h g = withoutAction-ok _ (pc-ok n s t ok a (omega arith))
     execute-ok (Zero a b) h g =
-        split (eqb (register t a) 0) (λ e. rw e (alone-ok _ (pc-ok n s t ok b (omega arith)))) (λ e. rw e (alone-ok _ (next-ok n s t ok before)))
-    execute-ok (Raise a) h g = alone-ok _ (next-ok n s _ (label-ok n s t ok (join (t .label) a) (order .within (t .label) a (ok .label) (h .0))) before)
+        split (eqb (register t a) 0) (λ e. rw e (withoutAction-ok _ (pc-ok n s t ok b (omega arith)))) (λ e. rw e (withoutAction-ok _ (next-ok n s t ok before)))
+    execute-ok (Raise a) h g = withoutAction-ok _ (next-ok n s _ (label-ok n s t ok (join (t .label) a) (order .within (t .label) a (ok .label) (h .0))) before)
     execute-ok (Send a b c) h g =
         split (flows (t .label) b)
         (λ e. rw e record { task = next-ok n s t ok before; action = record { label = h .1; sender = omega (arith, ok .spare); value = ok .words c } })
-        (λ e. rw e (alone-ok _ (kind-ok n s t ok 4 (omega arith) (omega arith))))
+        (λ e. rw e (withoutAction-ok _ (kind-ok n s t ok 4 (omega arith) (omega arith))))
     execute-ok (Take a b) h g = taken-ok a b t ok (oldest flows t) refl
     execute-ok (Poll a b c) h g = taken-ok a b (withPc c t) (pc-ok n s t ok c (omega arith)) (oldest flows t) refl
     execute-ok (Sandbox a b c) h g =
@@ -142,21 +142,21 @@ module _ (flows : ℕ → ℕ → Bool) (join : ℕ → ℕ → ℕ) (order : Or
           task = next-ok n s _ (register-ok n s _ (spare-ok n s t ok (t .spare - c) (omega arith)) a (childSlot s t c) (omega (arith, ok .spare))) before;
           action = child-ok b c (omega arith) (omega arith) fits;
         })
-        (λ e. rw e (alone-ok _ (kind-ok n s t ok 5 (omega arith) (omega arith))))
+        (λ e. rw e (withoutAction-ok _ (kind-ok n s t ok 5 (omega arith) (omega arith))))
     execute-ok (Identity a b) h g =
-        alone-ok _ (next-ok n s _ (register-ok n s _ (register-ok n s t ok a (t .label) (omega (arith, ok .label))) b s (omega (arith, ok .spare))) before)
+        withoutAction-ok _ (next-ok n s _ (register-ok n s _ (register-ok n s t ok a (t .label) (omega (arith, ok .label))) b s (omega (arith, ok .spare))) before)
 
   module _ (program : List ℕ) (bytes : Bytes program) (size : count program ≡ n) where
     carriedOut-ok : (d : Decoded) → instructionAt program (t .pc) ≡ d → OutcomeFacts n s (carriedOut flows join d s t)
     carriedOut-ok (Legal i) e =
         execute-ok (omega (arith, at-below program (t .pc) i e)) i (rw size at (at-sound program (t .pc) i e)) (at-bytes program (t .pc) i bytes e)
-    carriedOut-ok Illegal e = alone-ok t ok
+    carriedOut-ok Illegal e = withoutAction-ok t ok
 
     outcome-ok : OutcomeFacts n s (outcome flows join program s t)
     unfolding outcome
     outcome-ok =
         split (eqb (t .pc) (count program))
-        (λ e. rw e (alone-ok _ (kind-ok n s t ok 3 (omega arith) (omega arith))))
+        (λ e. rw e (withoutAction-ok _ (kind-ok n s t ok 3 (omega arith) (omega arith))))
         (λ e. rw e (carriedOut-ok (instructionAt program (t .pc)) refl))
 
 -- ---- all slots
@@ -168,16 +168,16 @@ module _ (n : ℕ) where
   set-ok : (ss : List Slot) (i : ℕ) (y : Slot) → SlotsFacts n ss → SlotFacts n i y → SlotsFacts n (set ss i y)
   set-ok ss i y g h k = getD-set-at (SlotFacts n k) ss i k y unused (λ e. rw e h) (g k)
 
-  receive-ok : (s : ℕ) (m : Message) → MessageFacts m → (x : Slot) → SlotFacts n s x → SlotFacts n s (receive m x)
-  receive-ok s m g unused h = tt
-  receive-ok s m g (used t) h =
+  enqueue-ok : (s : ℕ) (m : Message) → MessageFacts m → (x : Slot) → SlotFacts n s x → SlotFacts n s (enqueue m x)
+  enqueue-ok s m g unused h = tt
+  enqueue-ok s m g (used t) h =
       split (eqb (t .kind) 1 && hasRoom (m .label) (t .mailbox))
       (λ b. rw b (mailbox-ok n s t h (t .mailbox ++ (m ∷ [])) (mailbox-append (t .mailbox) (h .mailbox) m g (and-both (eqb (t .kind) 1) (hasRoom (m .label) (t .mailbox)) b .1))))
       (λ b. rw b h)
 
   perform-ok : (a : Action) → ActionFacts n a → (ss : List Slot) → SlotsFacts n ss → SlotsFacts n (perform a ss)
-  perform-ok quiet h ss g = g
-  perform-ok (deliver j m) h ss g = set-ok ss j (receive m (slotAt ss j)) g (receive-ok j m h (slotAt ss j) (g j))
+  perform-ok noAction h ss g = g
+  perform-ok (deliver j m) h ss g = set-ok ss j (enqueue m (slotAt ss j)) g (enqueue-ok j m h (slotAt ss j) (g j))
   perform-ok (spawn j c) h ss g = set-ok ss j (used c) g h
 
   applied-ok : (s : ℕ) (o : Outcome) → OutcomeFacts n s o → (ss : List Slot) → SlotsFacts n ss → SlotsFacts n (applied s o ss)
@@ -200,9 +200,9 @@ module _ (s : State) (ok : Valid s) where
 
   pub valid-spares : Spares (s .slots)
   valid-spares = record {
-    sixteen = ok .sixteen;
+    slotCount = ok .slotCount;
     fits = λ i l. slot-fits i (slotAt (s .slots) i) l (tasks-facts i);
-    free = spares-free (s .slots) (ok .sixteen) (ok .spares);
+    free = spares-free (s .slots) (ok .slotCount) (ok .spares);
   }
 
   -- other slots, with the same program and a turn slot in range
@@ -213,7 +213,7 @@ module _ (s : State) (ok : Valid s) where
     bytes = ok .bytes;
     legal = ok .legal;
     turnSlot = le-leb turnSlot 15 l;
-    sixteen = sp .sixteen;
+    slotCount = sp .slotCount;
     tasks = λ i. slot-valid (count (s .program)) i (slotAt ss i) (f i);
     spares = spares-test ss (sp .free);
   }

@@ -9,8 +9,8 @@ use lib.ListN.{List·getD-map}
 use Rattle.wire.specs.Lists.{Every, keep}
 use Rattle.wire.proofs.Lists.{split, map-set, map-absorb, keep-append, keep-keep, keep-and, keep-all}
 use Rattle.machine.specs.State.{Message, Task, Slot, unused, used, State, slotAt}
-use Rattle.machine.specs.Effect.{Action, quiet, deliver, spawn, Outcome}
-use Rattle.machine.specs.Turn.{hasRoom, receive, perform, applied}
+use Rattle.machine.specs.Effect.{Action, noAction, deliver, spawn, Outcome}
+use Rattle.machine.specs.Turn.{hasRoom, enqueue, perform, applied}
 use Rattle.machine.specs.View.{viewTask, viewSlot, view}
 use Rattle.machine.proofs.Effect.{viewOutcome}
 
@@ -36,9 +36,9 @@ module _ (sees : ℕ → Bool) where
   -- ---- what arrives
 
   -- a message that is hidden changes no view
-  pub receive-hidden : (m : Message) (x : Slot) → sees (m .label) ≡ false → viewSlot sees (receive m x) ≡ viewSlot sees x
-  receive-hidden m unused h = refl
-  receive-hidden m (used t) h =
+  pub enqueue-hidden : (m : Message) (x : Slot) → sees (m .label) ≡ false → viewSlot sees (enqueue m x) ≡ viewSlot sees x
+  enqueue-hidden m unused h = refl
+  enqueue-hidden m (used t) h =
       split (eqb (t .kind) 1 && hasRoom (m .label) (t .mailbox)) (λ b. rw (b, keep-append, h, append-nil)) (λ b. rw b)
 
   module _ (m : Message) (shown : sees (m .label) ≡ true) where
@@ -49,24 +49,24 @@ module _ (sees : ℕ → Bool) where
     room-seen : (ms : List Message) → hasRoom (m .label) (keep (λ a. sees (a .label)) ms) ≡ hasRoom (m .label) ms
     room-seen ms = rw (keep-keep (λ a. eqb (a .label) (m .label)) (λ a. sees (a .label)) same-label)
 
-    receive-shown : (x : Slot) → viewSlot sees (receive m (viewSlot sees x)) ≡ viewSlot sees (receive m x)
-    receive-shown unused = refl
-    receive-shown (used t) =
+    enqueue-shown : (x : Slot) → viewSlot sees (enqueue m (viewSlot sees x)) ≡ viewSlot sees (enqueue m x)
+    enqueue-shown unused = refl
+    enqueue-shown (used t) =
         split (sees (t .label))
         (λ e. rw (e, room-seen) (split (eqb (t .kind) 1 && hasRoom (m .label) (t .mailbox)) (λ b. rw (b, e, keep-append, keep-append, mailbox-twice)) (λ b. rw (b, e, mailbox-twice))))
         (λ e. rw e (split (eqb (t .kind) 1 && hasRoom (m .label) (t .mailbox)) (λ b. rw (b, e)) (λ b. rw (b, e))))
 
   -- the view of what arrives is that of what arrives in the view
-  receive-view : (m : Message) (x : Slot) → viewSlot sees (receive m (viewSlot sees x)) ≡ viewSlot sees (receive m x)
-  receive-view m x =
-      split (sees (m .label)) (λ e. receive-shown m e x)
-      (λ e. receive-hidden m (viewSlot sees x) e ∙ slot-twice x ∙ sym (receive-hidden m x e))
+  enqueue-view : (m : Message) (x : Slot) → viewSlot sees (enqueue m (viewSlot sees x)) ≡ viewSlot sees (enqueue m x)
+  enqueue-view m x =
+      split (sees (m .label)) (λ e. enqueue-shown m e x)
+      (λ e. enqueue-hidden m (viewSlot sees x) e ∙ slot-twice x ∙ sym (enqueue-hidden m x e))
 
   -- ---- all slots
 
   pub perform-view : (a : Action) (ss : List Slot) → map (viewSlot sees) (perform a (map (viewSlot sees) ss)) ≡ map (viewSlot sees) (perform a ss)
-  perform-view quiet ss = slots-twice ss
-  perform-view (deliver j m) ss = rw (map-set, map-set, slots-twice ss, List·getD-map (viewSlot sees) ss j unused, receive-view)
+  perform-view noAction ss = slots-twice ss
+  perform-view (deliver j m) ss = rw (map-set, map-set, slots-twice ss, List·getD-map (viewSlot sees) ss j unused, enqueue-view)
   perform-view (spawn j c) ss = rw (map-set, map-set, slots-twice ss)
 
   perform-same : (a : Action) (ss ss′ : List Slot) → map (viewSlot sees) ss ≡ map (viewSlot sees) ss′

@@ -1,4 +1,4 @@
--- The effect of each instruction: what its task becomes and what it does to the others, told from that task alone.
+-- The effect of each instruction: what its task becomes and what it does to the slots, told from that task alone.
 use Prim.Native.Nat.{ℕ, _+_, _-_, _*_, _^_, _%_}
 use mathlib.Core.Bool.{Bool, cond}
 use mathlib.Core.Option.{Option, none, some}
@@ -13,9 +13,9 @@ use Rattle.instruction.specs.declared.Decoded.the-variants.{Legal, Illegal}
 use Rattle.instruction.specs.Program.{count, instructionAt}
 use Rattle.machine.specs.State.{Message, Task, withKind, withLabel, withSpare, withPc, withMailbox, register, withRegister, next}
 
--- what a task does to the others: nothing, a message to the slot of that number, or a new task in it
+-- what a task does to the slots: nothing, a message to the slot of that number, or a new task in it
 pub data Action : Type 0 where
-  quiet : Action
+  noAction : Action
   deliver : ℕ → Message → Action
   spawn : ℕ → Task → Action
 
@@ -23,16 +23,16 @@ pub record Outcome : Type 0 where
   pub task : Task
   pub action : Action
 
-abbrev pub alone : Task → Outcome
-alone t = record { task = t; action = quiet }
+abbrev pub withoutAction : Task → Outcome
+withoutAction t = record { task = t; action = noAction }
 
 -- a task that stops keeps its place and everything else
 abbrev pub stopped : ℕ → Task → Outcome
-stopped kind t = alone (withKind kind t)
+stopped kind t = withoutAction (withKind kind t)
 
 -- register a gets x, and the place goes up
 abbrev pub gets : ℕ → ℕ → Task → Outcome
-gets a x t = alone (next (withRegister a x t))
+gets a x t = withoutAction (next (withRegister a x t))
 
 -- the new task of a sandbox of size n by the task t in slot s, at place b, and the slot where it stands
 abbrev pub childOf : ℕ → Task → ℕ → ℕ → Task
@@ -49,12 +49,12 @@ module _ (flows : ℕ → ℕ → Bool) where
   abbrev pub oldest : Task → Option Message
   oldest t = head? (keep (receivable t) (t .mailbox))
 
-  -- take's effect on t, whose oldest receivable message is given; `idle` where none is.
+  -- take's effect on t, whose oldest receivable message is given; it becomes `otherwise` where there is none.
   -- Register a is written first, so where a and b are the same b's figure stays
   abbrev pub taken : ℕ → ℕ → Task → Task → Option Message → Outcome
-  taken a b idle t none = alone idle
-  taken a b idle t (some m) =
-      alone (next (withRegister b (m .sender) (withRegister a (m .value) (withMailbox (dropFirst (receivable t) (t .mailbox)) t))))
+  taken a b otherwise t none = withoutAction otherwise
+  taken a b otherwise t (some m) =
+      withoutAction (next (withRegister b (m .sender) (withRegister a (m .value) (withMailbox (dropFirst (receivable t) (t .mailbox)) t))))
 
   module _ (join : ℕ → ℕ → ℕ) where
     -- instruction i, carried out by the task t in slot s
@@ -64,9 +64,9 @@ module _ (flows : ℕ → ℕ → Bool) where
     execute (Copy a b) s t = gets a (register t b) t
     execute (Add a b c) s t = gets a ((register t b + register t c) % 2 ^ 32) t
     execute (Subtract a b c) s t = gets a ((register t b + 2 ^ 32 - register t c) % 2 ^ 32) t
-    execute (Go a) s t = alone (withPc a t)
-    execute (Zero a b) s t = alone (cond (eqb (register t a) 0) (withPc b t) (next t))
-    execute (Raise a) s t = alone (next (withLabel (join (t .label) a) t))
+    execute (Go a) s t = withoutAction (withPc a t)
+    execute (Zero a b) s t = withoutAction (cond (eqb (register t a) 0) (withPc b t) (next t))
+    execute (Raise a) s t = withoutAction (next (withLabel (join (t .label) a) t))
     execute (Send a b c) s t =
         cond (flows (t .label) b)
         (record { task = next t; action = deliver (register t a) (record { label = b; sender = s; value = register t c }) })
@@ -82,7 +82,7 @@ module _ (flows : ℕ → ℕ → Bool) where
     -- no accepted image has an illegal instruction
     abbrev pub carriedOut : Decoded → ℕ → Task → Outcome
     carriedOut (Legal i) s t = execute i s t
-    carriedOut Illegal s t = alone t
+    carriedOut Illegal s t = withoutAction t
 
     -- what a live task in slot s does with its turn: with place N it gets kind 3, else it carries out one instruction
     unfoldable pub outcome : List ℕ → ℕ → Task → Outcome

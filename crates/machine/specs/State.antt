@@ -37,15 +37,18 @@ pub record State : Type 0 where
 abbrev pub slotAt : List Slot → ℕ → Slot
 slotAt ss i = getD ss i unused
 
--- ---- what is asked of a slot; an unused one has no right to any other
+-- ---- what is asked of a task and of a slot; an unused slot has no right to any other
+
+abbrev pub isLive : Task → Bool
+isLive t = eqb (t .kind) 1
+
+abbrev pub hasLiveTask : Slot → Bool
+hasLiveTask unused = false
+hasLiveTask (used t) = isLive t
 
 abbrev pub isUnused : Slot → Bool
 isUnused unused = true
 isUnused (used t) = false
-
-abbrev pub isLive : Slot → Bool
-isLive unused = false
-isLive (used t) = eqb (t .kind) 1
 
 abbrev pub spareOf : Slot → ℕ
 spareOf unused = 0

@@ -1,4 +1,5 @@
--- The image rules: a test for each, with the number that an image gets for breaking it, and the states that keep them all.
+-- The image rules that tasks taken apart can break, each a test under the number that an image gets for breaking it, and
+-- the states that keep them all.
 use Prim.Native.Nat.{ℕ, _+_, _%_, _^_, _<_}
 use mathlib.Core.Path.{_≡_}
 use mathlib.Core.Bool.{Bool, true, _&&_}
@@ -8,7 +9,7 @@ use lib.ListN.{length}
 use Rattle.wire.specs.Lists.{each, all, Bytes, Every}
 use Rattle.instruction.specs.Program.{count, allLegal}
 use Rattle.machine.specs.State.{lastSender, Message, Task, Slot, unused, used, State, slotAt, isUnused, spareOf, register}
-use Rattle.machine.specs.Turn.{ofLabel}
+use Rattle.machine.specs.Turn.{limitPerLabel, ofLabel}
 
 -- 5 program length, in bytes: a multiple of 4 from 4 to 1,024
 unfoldable pub isProgramLength : ℕ → Bool
@@ -23,17 +24,17 @@ abbrev pub fieldsInRange : ℕ → ℕ → Task → Bool
 fieldsInRange s n t = leb 1 (t .kind) && leb (t .kind) 5 && leb (t .label) 15 && leb (t .pc) n && leb (s + t .spare) 15
 
 -- 10 mail: message labels and senders in range, and at most four messages of each label
-abbrev pub isAddressed : Message → Bool
-isAddressed m = leb (m .label) 15 && leb (m .sender) lastSender
+abbrev pub messageInRange : Message → Bool
+messageInRange m = leb (m .label) 15 && leb (m .sender) lastSender
 
 abbrev pub mailInRange : List Message → Bool
-mailInRange ms = all isAddressed ms && each 16 (λ l. leb (length (ofLabel l ms)) 4)
+mailInRange ms = all messageInRange ms && each 16 (λ l. leb (length (ofLabel l ms)) limitPerLabel)
 
 -- 12 estate: slots s+1 to s+k of a task in slot s with spare k are unused
 unfoldable pub sparesUnused : List Slot → Bool
 sparesUnused ss = each 16 (λ s. each (spareOf (slotAt ss s)) (λ d. isUnused (slotAt ss (s + 1 + d))))
 
--- ---- tasks taken apart that keep the rules: registers and values have 32 bits there as they have in an image
+-- ---- tasks taken apart that keep the rules; registers and values have 32 bits, as the fields of an image have
 
 pub record ValidTask (n s : ℕ) (t : Task) : Type 0 where
   pub fields : fieldsInRange s n t ≡ true
@@ -46,11 +47,11 @@ abbrev pub ValidSlot : ℕ → ℕ → Slot → Type 0
 ValidSlot n s unused = Unit {0}
 ValidSlot n s (used t) = ValidTask n s t
 
-pub record Valid (s : State) : Type 0 where
-  pub size : isProgramLength (length (s .program)) ≡ true
-  pub bytes : Bytes (s .program)
-  pub legal : allLegal (s .program) ≡ true
-  pub turnSlot : isTurnSlot (s .turnSlot) ≡ true
-  pub sixteen : length (s .slots) ≡ 16
-  pub tasks : (i : ℕ) → ValidSlot (count (s .program)) i (slotAt (s .slots) i)
-  pub spares : sparesUnused (s .slots) ≡ true
+pub record Valid (state : State) : Type 0 where
+  pub size : isProgramLength (length (state .program)) ≡ true
+  pub bytes : Bytes (state .program)
+  pub legal : allLegal (state .program) ≡ true
+  pub turnSlot : isTurnSlot (state .turnSlot) ≡ true
+  pub slotCount : length (state .slots) ≡ 16
+  pub tasks : (s : ℕ) → ValidSlot (count (state .program)) s (slotAt (state .slots) s)
+  pub spares : sparesUnused (state .slots) ≡ true

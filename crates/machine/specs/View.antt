@@ -16,4 +16,4 @@ module _ (sees : ℕ → Bool) where
   viewSlot (used t) = cond (sees (t .label)) (used (viewTask t)) unused
 
   unfoldable pub view : State → State
-  view s = record { program = s .program; turnSlot = s .turnSlot; slots = map viewSlot (s .slots) }
+  view state = record { program = state .program; turnSlot = state .turnSlot; slots = map viewSlot (state .slots) }

@@ -1,52 +1,72 @@
--- Laws of the calls: when one is accepted, and what it then tells and writes.
-use Prim.Native.Nat.{ℕ, _≤_}
-use mathlib.Core.Path.{_≡_, refl, sym}
+-- Laws of a call: when it is accepted, what it then tells and writes, and which numbers it may tell.
+use Prim.Native.Nat.{ℕ, zero, suc, _≤_}
+use mathlib.Core.Logic.{_≢_}
+use mathlib.Core.Path.{_≡_, refl, sym, _∙_}
 use mathlib.Core.Bool.{cond}
 use mathlib.Core.List.{List, []}
 use native.Mathlib.Omega.{arith}
-use borrow.Author.Tests.{leb-true, le-leb, eqb-true}
+use borrow.Author.Tests.{leb-true, le-leb, eqb-true, eqb-false}
 use lib.Dec.{leb, eqb}
 use lib.ListN.{length, take}
 use Rattle.wire.proofs.Lists.{split}
-use Rattle.wire.proofs.Output.{take-over, drop-over, length-over}
+use Rattle.wire.proofs.Output.{take-overwrite, drop-overwrite, length-overwrite}
+use Rattle.image.specs.Refusal.{_then_, unless}
 use Rattle.image.specs.Image.{imageNumber}
-use Rattle.image.proofs.Refusal.{then-right, then-le, unless-le, unless-none}
-use Rattle.image.proofs.Image.{image-number-low}
-use Rattle.monitor.specs.Calls.{callNumber, answer, output}
-use Rattle.monitor.specs.Claims.{WritesItsAnswer}
+use Rattle.image.proofs.Refusal.{then-left, then-right, then-holds, unless-holds, unless-none}
+use Rattle.monitor.specs.Calls.{Call, callNumber, callAnswer, callOutput}
+use Rattle.monitor.specs.Claims.{AcceptedExactly, WritesItsAnswer}
 
-module _ (argument : ℕ) (image bytes out : List ℕ) where
-  -- no number: none of the argument, none of the image, and room for the bytes
-  pub call-room : callNumber argument image bytes out ≡ 0 → length bytes ≤ length out
+module _ (c : Call) (image out : List ℕ) where
+  -- what the call tells as its number
+  pub answer-number : callAnswer c image out .number ≡ callNumber c image out
+  unfolding callAnswer
+  answer-number = split (eqb (callNumber c image out) 0) (λ e. rw e (sym (eqb-true (callNumber c image out) 0 e))) (λ e. rw e)
+
+  none-then : callNumber c image out ≡ 0 → (c .argument ≡ 0) × (imageNumber image ≡ 0) × (length (c .bytes) ≤ length out)
   unfolding callNumber
-  call-room e =
-      leb-true _ _ (unless-none (leb (length bytes) (length out)) 12 (then-right (imageNumber image) _ (then-right argument _ e)))
+  none-then e =
+      let i = then-right (c .argument) _ e in
+      let o = then-right (imageNumber image) _ i in
+      (then-left (c .argument) _ e, then-left (imageNumber image) _ i, leb-true _ _ (unless-none (leb (length (c .bytes)) (length out)) 12 o))
 
-  pub call-none : argument ≡ 0 → imageNumber image ≡ 0 → length bytes ≤ length out → callNumber argument image bytes out ≡ 0
+  then-none : c .argument ≡ 0 → imageNumber image ≡ 0 → length (c .bytes) ≤ length out → callNumber c image out ≡ 0
   unfolding callNumber
-  call-none e f h = rw (e, f, le-leb (length bytes) (length out) h)
+  then-none a i o = rw (a, i, le-leb (length (c .bytes)) (length out) o)
 
-  pub call-listed : argument ≤ 13 → callNumber argument image bytes out ≤ 13
+  pub accepted-exactly : AcceptedExactly c image out
+  accepted-exactly = record { only = λ e. none-then (sym answer-number ∙ e); always = λ a i o. answer-number ∙ then-none a i o }
+
+  -- the bytes that the call writes, none where it is refused
+  pub call-written : take (callAnswer c image out .length) (callOutput c image out) ≡ cond (eqb (callNumber c image out) 0) (c .bytes) []
+  unfolding callAnswer callOutput
+  call-written = split (eqb (callNumber c image out) 0) (λ e. rw e (take-overwrite (c .bytes) out)) (λ e. rw e)
+
+  -- it writes the bytes of its answer and nothing else
+  pub writes-its-answer : WritesItsAnswer c (callAnswer c image out) out (callOutput c image out)
+  unfolding callAnswer callOutput
+  writes-its-answer =
+      split (eqb (callNumber c image out) 0)
+      (λ e. let room = none-then (eqb-true (callNumber c image out) 0 e) .2 in
+      rw e
+      record {
+        refused = λ n. absurd (n refl);
+        accepted = λ _. (refl, refl, take-overwrite (c .bytes) out);
+        behind = drop-overwrite (c .bytes) out;
+        fits = room;
+        size = length-overwrite (c .bytes) out room;
+      })
+      (λ e. rw e
+      record {
+        refused = λ _. (refl, refl, refl);
+        accepted = λ z. absurd (eqb-false (callNumber c image out) 0 e z);
+        behind = refl;
+        fits = omega arith;
+        size = refl;
+      })
+
+  -- what holds of the argument's number, the image's, 0 and 13 holds of the number told
+  pub number-holds : (P : ℕ → Type 0) → P (c .argument) → P (imageNumber image) → P 0 → P 13 → P (callAnswer c image out .number)
   unfolding callNumber
-  call-listed h =
-      then-le 13 argument _ h
-      (then-le 13 (imageNumber image) _ (omega (arith, image-number-low image)) (unless-le 13 (leb (length bytes) (length out)) 13 (omega arith)))
-
-module _ (number : ℕ) (bytes : List ℕ) (busy : ℕ) where
-  pub answer-number : answer number bytes busy .number ≡ number
-  unfolding answer
-  answer-number = split (eqb number 0) (λ e. rw e (sym (eqb-true number 0 e))) (λ e. rw e)
-
-  -- the bytes that a call writes, none where it is refused
-  pub call-written : (out : List ℕ) → take (answer number bytes busy .length) (output number bytes out) ≡ cond (eqb number 0) bytes []
-  unfolding answer output
-  call-written out = split (eqb number 0) (λ e. rw e (take-over bytes out)) (λ e. rw e)
-
--- a call writes the bytes of its answer and nothing else
-pub writes-its-answer : (number : ℕ) (bytes : List ℕ) (busy : ℕ) (out : List ℕ) → (number ≡ 0 → length bytes ≤ length out)
-    → WritesItsAnswer (answer number bytes busy) out (output number bytes out)
-unfolding answer output
-writes-its-answer number bytes busy out room =
-    split (eqb number 0)
-    (λ e. rw e record { refused = λ n. absurd (n refl); behind = drop-over bytes out; size = length-over bytes out (room (eqb-true number 0 e)) })
-    (λ e. rw e record { refused = λ n. (refl, refl, refl); behind = refl; size = refl })
+  number-holds P a i z o =
+      rw answer-number
+      (then-holds P (c .argument) _ a (then-holds P (imageNumber image) _ i (unless-holds P (leb (length (c .bytes)) (length out)) 13 z o)))

@@ -19,7 +19,7 @@ unfolding Lists.each Label.flows Table.decode Program.instructionAt Effect.execu
     Record.mailboxBytes Record.wordsBytes Image.programLength Image.slotsPart Image.versionNumber
     Valid.isProgramLength Image.programNumber Image.turnSlotNumber Image.recordLength Image.skip Image.slotsOf
     Image.isRecordLength Image.slotNumber Image.slotsNumber Image.tailNumber Valid.sparesUnused
-    Image.spareNumber Image.imageNumber Image.stateOf Image.slotsBytes Image.imageBytes Calls.callNumber
+    Image.spareNumber Image.imageNumber Image.stateOf Image.slotsBytes Image.imageBytes Calls.callNumber Calls.callAnswer
 examples = record {
   p1 = (refl, refl);
   p2 = (refl, refl);

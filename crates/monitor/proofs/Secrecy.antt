@@ -15,18 +15,18 @@ use Rattle.machine.specs.Machine.{turns, view, busy}
 use Rattle.machine.proofs.Machine.{turns-valid, view-valid, turns-add, turns-same}
 use Rattle.image.specs.Refusal.{unless}
 use Rattle.image.specs.Image.{stateOf, imageBytes}
-use Rattle.image.proofs.Image.{accepted, accepted-valid, image-back, image-bytes, image-accepted, image-forth}
-use Rattle.monitor.specs.Calls.{callNumber, turnsBytes, turnsNumber, viewBytes, viewNumber, viewAnswer, viewOutput}
+use Rattle.image.proofs.Image.{in-order, accepted-valid, image-back, image-bytes, image-accepted, image-forth}
+use Rattle.monitor.specs.Calls.{callNumber, callAnswer, turnsCall, viewBytes, viewCall, viewAnswer, viewOutput}
 use Rattle.monitor.specs.Claims.{Accepted, TurnCall, isAccepted, imageAfter, finalImage, turnsCarriedOut, EqualViews}
-use Rattle.monitor.proofs.Calls.{call-none, answer-number, call-written}
+use Rattle.monitor.proofs.Calls.{accepted-exactly, call-written, writes-its-answer}
 
 -- ---- accepted images and valid states
 
 pub read-valid : (image : List ℕ) → Accepted image → Valid (stateOf image)
-read-valid image a = accepted-valid image (a .bytes) (accepted image (a .number))
+read-valid image a = accepted-valid image (a .bytes) (in-order image (a .number))
 
 pub rewritten : (image : List ℕ) → Accepted image → imageBytes (stateOf image) ≡ image
-rewritten image a = image-back image (a .bytes) (accepted image (a .number))
+rewritten image a = image-back image (a .bytes) (in-order image (a .number))
 
 pub written-accepted : (s : State) → Valid s → Accepted (imageBytes s)
 written-accepted s ok = record { bytes = image-bytes s ok; number = image-accepted s ok }
@@ -41,8 +41,8 @@ module _ (v : ℕ) (seen : v ≤ 15) where
   view-shown : (image : List ℕ) → Accepted image → (out : List ℕ) → length (viewBytes v image) ≤ length out
       → take (viewAnswer v image out .length) (viewOutput v image out) ≡ viewBytes v image
   view-shown image a out room =
-      call-written (viewNumber v image out) (viewBytes v image) 0 out
-      ∙ rw (call-none (unless (leb v 15) 1) image (viewBytes v image) out observer-none (a .number) room)
+      let c = viewCall v image in
+      writes-its-answer c image out .accepted (accepted-exactly c image out .always observer-none (a .number) room) .2
 
   module _ (image image′ : List ℕ) where
     pub equal-bytes : EqualViews v image image′ → viewBytes v image ≡ viewBytes v image′
@@ -54,18 +54,22 @@ module _ (v : ℕ) (seen : v ≤ 15) where
         sym (view-shown image (e .left) out (omega arith)) ∙ e .written out out refl ∙ view-shown image′ (e .right) out (omega arith)
 
     module _ (a : Accepted image) (a′ : Accepted image′) (e : viewBytes v image ≡ viewBytes v image′) where
-      number-same : (out out′ : List ℕ) → length out ≡ length out′ → viewNumber v image out ≡ viewNumber v image′ out′
+      number-same : (out out′ : List ℕ) → length out ≡ length out′ → callNumber (viewCall v image) image out ≡ callNumber (viewCall v image′) image′ out′
       unfolding callNumber
       number-same out out′ h = rw (a .number, a′ .number, e, h)
+
+      answer-same : (out out′ : List ℕ) → length out ≡ length out′ → viewAnswer v image out ≡ viewAnswer v image′ out′
+      unfolding callAnswer
+      answer-same out out′ h = rw (number-same out out′ h, e)
 
       pub equal-views : EqualViews v image image′
       equal-views = record {
         left = a;
         right = a′;
-        told = λ out out′ h. rw (number-same out out′ h, e);
+        told = answer-same;
         written = λ out out′ h.
-            call-written (viewNumber v image out) (viewBytes v image) 0 out
-            ∙ rw (number-same out out′ h, e) (sym (call-written (viewNumber v image′ out′) (viewBytes v image′) 0 out′));
+            call-written (viewCall v image) image out
+            ∙ rw (number-same out out′ h, e) (sym (call-written (viewCall v image′) image′ out′));
       }
 
 -- ---- a list of calls comes to its sum of turns
@@ -78,11 +82,8 @@ carriedOut c image = cond (isAccepted c image) (c .n) 0
 after-call : (c : TurnCall) (image : List ℕ) → Accepted image → imageAfter c image ≡ imageBytes (turns (carriedOut c image) (stateOf image))
 unfolding Turn.turns
 after-call c image a =
-    let number = turnsNumber (c .n) image (c .out) in
-    let bytes = turnsBytes (c .n) image in
-    let count = busy (c .n) (stateOf image) in
     split (isAccepted c image)
-    (λ e. let z : number ≡ 0 = sym (answer-number number bytes count) ∙ eqb-true _ 0 e in rw e (call-written number bytes count (c .out) ∙ rw z))
+    (λ e. rw e (writes-its-answer (turnsCall (c .n) image) image (c .out) .accepted (eqb-true _ 0 e) .2))
     (λ e. rw e (sym (rewritten image a)))
 
 pub after-calls : (cs : List TurnCall) (image : List ℕ) → Accepted image
@@ -100,23 +101,23 @@ after-calls (c ∷ cs) image a =
 
 -- ---- the rule
 
-module _ (v : ℕ) (seen : v ≤ 15) (image image′ : List ℕ) (e : EqualViews v image image′) where
+module _ (v : ℕ) (seen : v ≤ 15) (image image′ : List ℕ) (a : Accepted image) (a′ : Accepted image′) (e : viewBytes v image ≡ viewBytes v image′) where
   -- the states show the observer the same
   states-same : view v (stateOf image) ≡ view v (stateOf image′)
   states-same =
       let s = stateOf image in
       let s′ = stateOf image′ in
-      sym (image-forth (view v s) (view-valid v s (read-valid image (e .left))))
-      ∙ ap stateOf (equal-bytes v seen image image′ e)
-      ∙ image-forth (view v s′) (view-valid v s′ (read-valid image′ (e .right)))
+      sym (image-forth (view v s) (view-valid v s (read-valid image a)))
+      ∙ ap stateOf e
+      ∙ image-forth (view v s′) (view-valid v s′ (read-valid image′ a′))
 
   -- after the same number of turns they still do
-  pub turns-equal : (n : ℕ) → EqualViews v (imageBytes (turns n (stateOf image))) (imageBytes (turns n (stateOf image′)))
+  turns-equal : (n : ℕ) → EqualViews v (imageBytes (turns n (stateOf image))) (imageBytes (turns n (stateOf image′)))
   turns-equal n =
       let s = stateOf image in
       let s′ = stateOf image′ in
-      let ok = read-valid image (e .left) in
-      let ok′ = read-valid image′ (e .right) in
+      let ok = read-valid image a in
+      let ok′ = read-valid image′ a′ in
       let t = turns-valid n s ok in
       let t′ = turns-valid n s′ ok′ in
       equal-views v seen (imageBytes (turns n s)) (imageBytes (turns n s′)) (written-accepted (turns n s) t) (written-accepted (turns n s′) t′)
@@ -126,4 +127,4 @@ module _ (v : ℕ) (seen : v ≤ 15) (image image′ : List ℕ) (e : EqualViews
 
   pub secrecy : (calls calls′ : List TurnCall) → turnsCarriedOut calls image ≡ turnsCarriedOut calls′ image′
       → EqualViews v (finalImage calls image) (finalImage calls′ image′)
-  secrecy calls calls′ n = rw (after-calls calls image (e .left), after-calls calls′ image′ (e .right), n) (turns-equal (turnsCarriedOut calls′ image′))
+  secrecy calls calls′ n = rw (after-calls calls image a, after-calls calls′ image′ a′, n) (turns-equal (turnsCarriedOut calls′ image′))

@@ -1,5 +1,6 @@
 -- The claims: each a named type under the sentence that it answers; proofs/Claims.antt inhabits them.
 use Prim.Native.Nat.{ℕ, _+_, _≤_}
+use mathlib.Core.Logic.{_≢_}
 use mathlib.Core.Path.{_≡_}
 use mathlib.Core.Bool.{Bool, cond}
 use mathlib.Core.List.{List, [], _∷_}
@@ -9,71 +10,78 @@ use Rattle.wire.specs.Lists.{Bytes}
 use Rattle.machine.specs.State.{State, slotAt}
 use Rattle.machine.specs.Valid.{Valid}
 use Rattle.image.specs.Record.{recordBytes}
-use Rattle.image.specs.Image.{imageNumber, stateOf, imageBytes}
+use Rattle.image.specs.Image.{imageNumber, stateOf, imageBytes, recordStart}
 use Rattle.monitor.specs.declared.Answer.{Answer}
-use Rattle.monitor.specs.Calls.{recordAnswer, rewriteBytes, rewriteNumber, rewriteAnswer, rewriteOutput, turnsNumber, turnsAnswer, turnsOutput, viewBytes, viewNumber, viewAnswer, viewOutput}
+use Rattle.monitor.specs.Calls.{recordAnswer, Call, callAnswer, callOutput, rewriteCall, rewriteAnswer, rewriteOutput, turnsAnswer, turnsOutput, viewBytes, viewAnswer, viewOutput}
 
--- an accepted image: bytes that have no number
+-- an accepted image: bytes whose number is 0
 pub record Accepted (image : List ℕ) : Type 0 where
   pub bytes : Bytes image
   pub number : imageNumber image ≡ 0
 
--- ---- what the calls tell and write, demand 1
+-- ---- demand 1: what a call tells and writes
 
--- "Numbers a caller may receive": 0 and the thirteen of the table
+-- "Numbers a caller may receive": 0 and those of the table, 1 and 2 "each only in the call that has that argument"
 abbrev pub NumbersAreListed : Type 0
 NumbersAreListed =
     (image out : List ℕ)
-    → (rewriteNumber image out ≤ 13)
-    × ((n : ℕ) → turnsNumber n image out ≤ 13)
-    × ((v : ℕ) → viewNumber v image out ≤ 13)
+    → ((rewriteAnswer image out .number ≤ 13) × (rewriteAnswer image out .number ≢ 1) × (rewriteAnswer image out .number ≢ 2))
+    × ((n : ℕ) → (turnsAnswer n image out .number ≤ 13) × (turnsAnswer n image out .number ≢ 1))
+    × ((v : ℕ) → (viewAnswer v image out .number ≤ 13) × (viewAnswer v image out .number ≢ 2))
 
--- "The first met is given; none of them in any other event." An output of 7,796 bytes is never too short
+-- "none of them in any other event": a call is accepted exactly when its argument and the image have no number and the
+-- output is long enough
+pub record AcceptedExactly (c : Call) (image out : List ℕ) : Type 0 where
+  pub only : callAnswer c image out .number ≡ 0 → (c .argument ≡ 0) × (imageNumber image ≡ 0) × (length (c .bytes) ≤ length out)
+  pub always : c .argument ≡ 0 → imageNumber image ≡ 0 → length (c .bytes) ≤ length out → callAnswer c image out .number ≡ 0
+
+abbrev pub CallsAreAcceptedExactly : Type 0
+CallsAreAcceptedExactly = (c : Call) (image out : List ℕ) → AcceptedExactly c image out
+
+-- "1,000,000 turns accepted"; an output of 7,796 bytes is long enough for every call
 abbrev pub OthersAreAccepted : Type 0
 OthersAreAccepted =
     (image out : List ℕ) → Accepted image → 7796 ≤ length out
-    → (rewriteNumber image out ≡ 0)
-    × ((n : ℕ) → n ≤ 1000000 → turnsNumber n image out ≡ 0)
-    × ((v : ℕ) → v ≤ 15 → viewNumber v image out ≡ 0)
+    → (rewriteAnswer image out .number ≡ 0)
+    × ((n : ℕ) → n ≤ 1000000 → turnsAnswer n image out .number ≡ 0)
+    × ((v : ℕ) → v ≤ 15 → viewAnswer v image out .number ≡ 0)
 
--- "A refused call writes no byte and tells its number, length 0 and busy count 0"
--- "An accepted call writes only the bytes of its answer."
-pub record WritesItsAnswer (a : Answer) (out after : List ℕ) : Type 0 where
-  pub refused : (a .number ≡ 0 → ⊥) → (a .length ≡ 0) × (a .busy ≡ 0) × (after ≡ out)
+-- "A refused call writes no byte and tells its number, length 0 and busy count 0; an accepted one tells number 0. An
+-- accepted call writes only the bytes of its answer."
+pub record WritesItsAnswer (c : Call) (a : Answer) (out after : List ℕ) : Type 0 where
+  pub refused : a .number ≢ 0 → (a .length ≡ 0) × (a .busy ≡ 0) × (after ≡ out)
+  pub accepted : a .number ≡ 0 → (a .length ≡ length (c .bytes)) × (a .busy ≡ c .busy) × (take (a .length) after ≡ c .bytes)
   pub behind : drop (a .length) after ≡ drop (a .length) out
+  pub fits : a .length ≤ length out
   pub size : length after ≡ length out
 
 abbrev pub CallsWriteTheirAnswer : Type 0
-CallsWriteTheirAnswer =
-    (image out : List ℕ)
-    → WritesItsAnswer (rewriteAnswer image out) out (rewriteOutput image out)
-    × ((n : ℕ) → WritesItsAnswer (turnsAnswer n image out) out (turnsOutput n image out))
-    × ((v : ℕ) → WritesItsAnswer (viewAnswer v image out) out (viewOutput v image out))
+CallsWriteTheirAnswer = (c : Call) (image out : List ℕ) → WritesItsAnswer c (callAnswer c image out) out (callOutput c image out)
 
 -- "The reader hands back each record as the part of the caller's image that holds it. The part is the record's bytes
 -- without the 2-byte length. That part is empty for an unused slot, a slot number above 15 or a refused image."
 pub record IsRecordPart (image : List ℕ) (slot : ℕ) (part : List ℕ) : Type 0 where
-  pub inside : (start : ℕ) × (part ≡ take (length part) (drop start image))
+  pub inside : part ≡ take (length part) (drop (recordStart image slot) image)
   pub bytes : Accepted image → slot ≤ 15 → part ≡ recordBytes (slotAt (stateOf image .slots) slot)
   pub above : (slot ≤ 15 → ⊥) → part ≡ []
-  pub refused : (imageNumber image ≡ 0 → ⊥) → part ≡ []
+  pub refused : imageNumber image ≢ 0 → part ≡ []
 
 abbrev pub RecordIsItsPart : Type 0
 RecordIsItsPart = (image : List ℕ) (slot : ℕ) → IsRecordPart image slot (recordAnswer image slot)
 
--- ---- images, demand 2
+-- ---- demand 2: images and tasks
 
 -- "The shortest image has 40 bytes, the longest 7,796."
 abbrev pub ImageLengths : Type 0
 ImageLengths = (image : List ℕ) → Accepted image → (40 ≤ length image) × (length image ≤ 7796)
 
--- "Reading an accepted image and writing it again yields the same bytes,"
+-- demand 2: "Reading an accepted image and writing it again yields the same bytes,"
 abbrev pub ReadThenWrite : Type 0
-ReadThenWrite = (image : List ℕ) → Accepted image → Valid (stateOf image) × (rewriteBytes image ≡ image)
+ReadThenWrite = (image : List ℕ) → Accepted image → Valid (stateOf image) × (rewriteCall image .bytes ≡ image)
 
--- "and writing out tasks that keep the image rules and reading them yields the same tasks."
+-- demand 2: "and writing out tasks that keep the image rules and reading them yields the same tasks."
 abbrev pub WriteThenRead : Type 0
-WriteThenRead = (s : State) → Valid s → Accepted (imageBytes s) × (stateOf (imageBytes s) ≡ s)
+WriteThenRead = (state : State) → Valid state → Accepted (imageBytes state) × (stateOf (imageBytes state) ≡ state)
 
 -- "A view is itself an accepted image."
 abbrev pub ViewIsAccepted : Type 0
@@ -83,7 +91,7 @@ ViewIsAccepted = (v : ℕ) (image : List ℕ) → Accepted image → Accepted (v
 abbrev pub ViewFor15 : Type 0
 ViewFor15 = (image : List ℕ) → Accepted image → viewBytes 15 image ≡ image
 
--- ---- the secrecy rule, demand 3
+-- ---- demand 3: the secrecy rule
 
 -- a turn call of a list: its n and its output
 pub record TurnCall : Type 0 where
@@ -119,15 +127,16 @@ pub record EqualViews (v : ℕ) (image image′ : List ℕ) : Type 0 where
       → take (viewAnswer v image out .length) (viewOutput v image out)
       ≡ take (viewAnswer v image′ out′ .length) (viewOutput v image′ out′)
 
--- "It is a single claim about two whole lists, for every v": any n and any output in each call, refused calls included
+-- "The two lists start from two accepted images whose views for v are the same bytes." Each holds any turn calls, with any
+-- n and any output, refused ones included. "It is a single claim about two whole lists, for every v"
 abbrev pub Secrecy : Type 0
 Secrecy =
     (v : ℕ) → v ≤ 15
-    → (image image′ : List ℕ) → EqualViews v image image′
+    → (image image′ : List ℕ) → Accepted image → Accepted image′ → viewBytes v image ≡ viewBytes v image′
     → (calls calls′ : List TurnCall) → turnsCarriedOut calls image ≡ turnsCarriedOut calls′ image′
     → EqualViews v (finalImage calls image) (finalImage calls′ image′)
 
--- "whose views for v are the same bytes": for accepted images that is what equal views are
+-- for accepted images, views that are the same bytes are equal views, and the other way round
 abbrev pub EqualViewsAreEqualBytes : Type 0
 EqualViewsAreEqualBytes =
     (v : ℕ) → v ≤ 15

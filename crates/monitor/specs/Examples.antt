@@ -8,23 +8,8 @@ use Rattle.label.specs.Label.{flows}
 use Rattle.machine.specs.State.{Message, Task, Slot, unused, used, State, withKind, withSpare, withRegister, withMailbox, next}
 use Rattle.machine.specs.Machine.{turns, busy, view}
 use Rattle.image.specs.Image.{imageNumber, imageBytes}
-use Rattle.monitor.specs.Calls.{rewriteNumber, turnsNumber, viewBytes, viewNumber}
-
--- ---- states
-
--- a live task with its registers 0 and no mail
-abbrev pub task : ℕ → ℕ → ℕ → Task
-task label spare pc = record { kind = 1; label = label; spare = spare; pc = pc; registers = replicate 8 0; mailbox = [] }
-
-abbrev pub message : ℕ → ℕ → ℕ → Message
-message label sender value = record { label = label; sender = sender; value = value }
-
--- one used slot, and two
-abbrev pub one : ℕ → Task → List Slot
-one s t = set (replicate 16 unused) s (used t)
-
-abbrev pub two : ℕ → Task → ℕ → Task → List Slot
-two s t s′ t′ = set (one s t) s′ (used t′)
+use Rattle.image.specs.Examples.{task, message, one, two}
+use Rattle.monitor.specs.Calls.{rewriteAnswer, turnsAnswer, viewBytes, viewAnswer}
 
 abbrev pub state : List ℕ → ℕ → List Slot → State
 state program turnSlot slots = record { program = program; turnSlot = turnSlot; slots = slots }
@@ -49,7 +34,7 @@ b label sent t = state (program sent) 0 (two 0 (sender label) 5 t)
 abbrev pub bImage : Slot → List ℕ
 bImage x = imageBytes (state (program 0) 0 (set (two 0 (sender 0) 5 receiver) 9 x))
 
--- the turn slot and the task in slot 5 once slot 0 has sent
+-- B with this send's label once slot 0 has sent: the turn slot, and the task in slot 5
 abbrev pub after : ℕ → ℕ → Task → State
 after sent turnSlot t = state (program sent) turnSlot (two 0 (next (sender 0)) 5 t)
 
@@ -104,8 +89,10 @@ pub record Examples : Type 0 where
   pub p9 : (turns 1 (b 0 2 (waiting [])) ≡ after 2 1 (waiting []))
       × (turns 1 (b 0 0 (waiting [])) ≡ after 0 1 (waiting (message 0 0 700 ∷ [])))
   -- "Order: 1 or 2 first, each only in the call that has that argument. Then the image from front to back [..] 13."
-  pub order : (viewNumber 16 [] [] ≡ 1) × (turnsNumber 1000001 [] [] ≡ 2) × (rewriteNumber [] [] ≡ 3)
-      × (rewriteNumber (bImage unused) [] ≡ 13)
+  pub order : (viewAnswer 16 [] [] .number ≡ 1)
+      × (turnsAnswer 1000001 [] [] .number ≡ 2)
+      × (rewriteAnswer [] [] .number ≡ 3)
+      × (rewriteAnswer (bImage unused) [] .number ≡ 13)
   -- The secrecy rule speaks of images that differ: B with and without a task of label 1 in slot 9 shows observer 0 the same.
   pub hidden : (imageNumber (bImage (used (task 1 0 0))) ≡ 0) × (imageNumber (bImage unused) ≡ 0)
       × (viewBytes 0 (bImage (used (task 1 0 0))) ≡ viewBytes 0 (bImage unused))

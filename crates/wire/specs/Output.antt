@@ -4,5 +4,5 @@ use mathlib.Core.List.{List, _++_}
 use lib.ListN.{length, drop}
 
 -- the output with w written at its front, and what stood behind that as it was
-abbrev pub over : List ℕ → List ℕ → List ℕ
-over w out = w ++ drop (length w) out
+abbrev pub overwrite : List ℕ → List ℕ → List ℕ
+overwrite w out = w ++ drop (length w) out
