@@ -1,4 +1,4 @@
--- The small images, each row by computation.
+-- The example images, each row by computation.
 use mathlib.Core.Path.{refl}
 use Rattle.wire.specs.Lists as Lists
 use Rattle.instruction.specs.Table as Table
@@ -24,6 +24,7 @@ examples = record {
   turnSlot = refl;
   recordLength = refl;
   tail = refl;
+  tooLong = refl;
   mail = (refl, refl);
   spare = (refl, refl);
   estate = (refl, refl);

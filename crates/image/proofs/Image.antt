@@ -20,7 +20,7 @@ use Rattle.machine.specs.Valid.{isProgramLength, isTurnSlot, sparesUnused, Vali
 use Rattle.machine.proofs.Rules.{size-facts}
 use Rattle.image.specs.Refusal.{unless, short}
 use Rattle.image.specs.Record.{recordBytes}
-use Rattle.image.specs.Image.{programLength, programOf, turnSlotOf, slotsPart, versionNumber, programNumber, turnSlotNumber, recordLength, span, skip, slotsOf, slotsNumber, tailNumber, spareNumber, imageNumber, stateOf, recordStart, recordPart, slotsBytes, imageBytes}
+use Rattle.image.specs.Image.{programLength, turnSlotAt, slotsAt, programOf, turnSlotOf, slotsPart, versionNumber, programNumber, turnSlotNumber, recordLength, span, skip, slotsOf, slotsNumber, tailNumber, spareNumber, imageNumber, stateOf, recordStart, recordPart, slotsBytes, imageBytes}
 use Rattle.image.proofs.Refusal.{then-left, then-right, then-holds, Listed, listed-unless, listed-short, unless-none, short-none}
 use Rattle.image.proofs.Slots.{slots-back, slots-valid, slots-length, slots-listed, length-slotsOf, slot-at, skip-drop, record-at, slots-number, slots-forth, slots-end, slots-bytes}
 
@@ -31,7 +31,7 @@ pub record InOrder (b : List ℕ) : Type 0 where
   pub three : 3 ≤ length b
   pub size : isProgramLength (programLength b) ≡ true
   pub legal : allLegal (programOf b) ≡ true
-  pub ahead : 4 + programLength b ≤ length b
+  pub ahead : slotsAt b ≤ length b
   pub turnSlot : isTurnSlot (turnSlotOf b) ≡ true
   pub slots : slotsNumber 16 0 (count (programOf b)) (slotsPart b) ≡ 0
   pub tail : skip 16 (slotsPart b) ≡ []
@@ -46,15 +46,15 @@ in-order b e =
     let r = then-right (slotsNumber 16 0 (count (programOf b)) (slotsPart b)) _ s in
     let p₂ = then-right (short 3 b) _ (then-left (programNumber b) _ p) in
     let p₃ = then-right (unless (isProgramLength (programLength b)) 5) _ p₂ in
-    let p₄ = then-right (short (3 + programLength b) b) _ p₃ in
+    let p₄ = then-right (short (turnSlotAt b) b) _ p₃ in
     let t₂ = then-left (turnSlotNumber b) _ t in
     record {
       version = eqb-true _ _ (unless-none (eqb (getD b 0 0) 1) 3 (then-right (short 1 b) _ (then-left (versionNumber b) _ e)));
       three = short-none 3 b (then-left _ _ (then-left (programNumber b) _ p));
       size = unless-none (isProgramLength (programLength b)) 4 (then-left _ _ p₂);
       legal = unless-none (allLegal (programOf b)) 5 p₄;
-      ahead = short-none (4 + programLength b) b (then-left _ _ t₂);
-      turnSlot = unless-none (isTurnSlot (turnSlotOf b)) 6 (then-right (short (4 + programLength b) b) _ t₂);
+      ahead = short-none (slotsAt b) b (then-left _ _ t₂);
+      turnSlot = unless-none (isTurnSlot (turnSlotOf b)) 6 (then-right (short (slotsAt b) b) _ t₂);
       slots = then-left _ _ s;
       tail = length-nil _ (eqb-true _ _ (unless-none (eqb (length (skip 16 (slotsPart b))) 0) 10 (then-left (tailNumber b) _ r)));
       spares = unless-none (sparesUnused (slotsOf 16 (slotsPart b))) 11 (then-right (tailNumber b) _ r);
@@ -71,7 +71,7 @@ module _ (b : List ℕ) (a : InOrder b) where
       let f = size-facts (programLength b) (a .size) in
       let s = slots-length 16 0 (count (programOf b)) (slotsPart b) (a .slots) in
       let z : length (skip 16 (slotsPart b)) ≡ 0 = ap length (a .tail) in
-      let d = length-drop (4 + programLength b) b in
+      let d = length-drop (slotsAt b) b in
       (omega (arith, a .ahead), omega (arith, a .ahead))
 
 module _ (b : List ℕ) (h : Bytes b) (a : InOrder b) where
@@ -80,14 +80,14 @@ module _ (b : List ℕ) (h : Bytes b) (a : InOrder b) where
   pub accepted-valid : Valid (stateOf b)
   unfolding stateOf slotsPart
   accepted-valid =
-      let s = drop (4 + programLength b) b in
+      let s = drop (slotsAt b) b in
       record {
         size = rw (program-size b a) (a .size);
         bytes = bytes-take (programLength b) (drop 3 b) (bytes-drop 3 b h);
         legal = a .legal;
         turnSlot = a .turnSlot;
         slotCount = length-slotsOf 16 s;
-        tasks = λ i. rw zero-add at (slots-valid 16 0 (count (programOf b)) s (bytes-drop (4 + programLength b) b h) (a .slots) i);
+        tasks = λ i. rw zero-add at (slots-valid 16 0 (count (programOf b)) s (bytes-drop (slotsAt b) b h) (a .slots) i);
         spares = a .spares;
       }
 
@@ -104,15 +104,15 @@ module _ (b : List ℕ) (h : Bytes b) (a : InOrder b) where
   slots-written : slotsBytes (slotsOf 16 (slotsPart b)) ≡ slotsPart b
   unfolding slotsPart
   slots-written =
-      let s = drop (4 + programLength b) b in
+      let s = drop (slotsAt b) b in
       let w = slotsBytes (slotsOf 16 s) in
-      sym (append-nil w) ∙ ap (λ (t : List ℕ). w ++ t) (sym (a .tail)) ∙ slots-back 16 0 (count (programOf b)) s (bytes-drop (4 + programLength b) b h) (a .slots)
+      sym (append-nil w) ∙ ap (λ (t : List ℕ). w ++ t) (sym (a .tail)) ∙ slots-back 16 0 (count (programOf b)) s (bytes-drop (slotsAt b) b h) (a .slots)
 
-  tail-back : turnSlotOf b ∷ slotsPart b ≡ drop (3 + programLength b) b
+  tail-back : turnSlotOf b ∷ slotsPart b ≡ drop (turnSlotAt b) b
   unfolding slotsPart
   tail-back =
-      let k : suc (3 + programLength b) ≡ 4 + programLength b = omega arith in
-      rw (← k) (sym (drop-cons b (3 + programLength b) 0 (omega (arith, a .ahead))))
+      let k : suc (turnSlotAt b) ≡ slotsAt b = omega arith in
+      rw (← k) (sym (drop-cons b (turnSlotAt b) 0 (omega (arith, a .ahead))))
 
   pub image-back : imageBytes (stateOf b) ≡ b
   unfolding imageBytes stateOf
@@ -120,7 +120,7 @@ module _ (b : List ℕ) (h : Bytes b) (a : InOrder b) where
       ap₂ (λ (x y : List ℕ). x ++ y)
       (ap₂ (λ (x y : List ℕ). x ++ y) (ap (λ (n : ℕ). 1 ∷ encodeNumber 2 n) (program-size b a) ∙ head-back) refl ∙ sym (take-add 3 (programLength b) b))
       (ap (λ (t : List ℕ). turnSlotOf b ∷ t) slots-written ∙ tail-back)
-      ∙ take-append-drop (3 + programLength b) b
+      ∙ take-append-drop (turnSlotAt b) b
 
 -- ---- a valid state's bytes are accepted and give it back
 
@@ -143,13 +143,13 @@ module _ (s : State) (ok : Valid s) where
   unfolding bytes size imageBytes
   turnSlot-is = sym (getD-drop 3 (imageBytes s) (length (s .program)) 0) ∙ getD-append-seam (s .program) (s .turnSlot) (slotsBytes (s .slots)) 0
 
-  slots-are : drop (4 + size) bytes ≡ slotsBytes (s .slots)
+  slots-are : drop (3 + size + 1) bytes ≡ slotsBytes (s .slots)
   unfolding bytes size imageBytes
   slots-are =
-      let k : 4 + length (s .program) ≡ 3 + length (s .program) + 1 = omega arith in
-      rw k (sym (drop-drop 1 (3 + length (s .program)) (imageBytes s)) ∙ ap (drop 1) (sym (drop-drop (length (s .program)) 3 (imageBytes s)) ∙ drop-append-seam (s .program) (s .turnSlot ∷ slotsBytes (s .slots))))
+      sym (drop-drop 1 (3 + length (s .program)) (imageBytes s))
+      ∙ ap (drop 1) (sym (drop-drop (length (s .program)) 3 (imageBytes s)) ∙ drop-append-seam (s .program) (s .turnSlot ∷ slotsBytes (s .slots)))
 
-  room : 4 + size ≤ length bytes
+  room : 3 + size + 1 ≤ length bytes
   unfolding bytes size imageBytes
   room = omega (arith, length-append (s .program) (s .turnSlot ∷ slotsBytes (s .slots)))
 
@@ -175,8 +175,8 @@ module _ (s : State) (ok : Valid s) where
   unfolding bytes size stateOf slotsPart
   image-forth =
       let p : take (programLength (imageBytes s)) (drop 3 (imageBytes s)) ≡ s .program = rw size-is program-is in
-      let t : getD (imageBytes s) (3 + programLength (imageBytes s)) 0 ≡ s .turnSlot = rw size-is turnSlot-is in
-      let r : slotsOf 16 (drop (4 + programLength (imageBytes s)) (imageBytes s)) ≡ s .slots = rw (size-is, slots-are) slots-read in
+      let t : getD (imageBytes s) (turnSlotAt (imageBytes s)) 0 ≡ s .turnSlot = rw size-is turnSlot-is in
+      let r : slotsOf 16 (drop (slotsAt (imageBytes s)) (imageBytes s)) ≡ s .slots = rw (size-is, slots-are) slots-read in
       λ i. record { program = p i; turnSlot = t i; slots = r i }
 
   slots-none : slotsNumber 16 0 (count (s .program)) (slotsBytes (s .slots)) ≡ 0
@@ -210,7 +210,7 @@ module _ (s : State) (ok : Valid s) where
         le-leb 1 (length (imageBytes s)) (omega arith),
         le-leb 3 (length (imageBytes s)) (omega arith),
         le-leb (3 + length (s .program)) (length (imageBytes s)) (omega arith),
-        le-leb (4 + length (s .program)) (length (imageBytes s)) m,
+        le-leb (3 + length (s .program) + 1) (length (imageBytes s)) m,
       )
 
 -- ---- an image's number is one of the table
@@ -230,7 +230,7 @@ image-listed b =
     then-holds Listed (versionNumber b) _ (then-holds Listed (short 1 b) _ (listed-short 1 b) (listed-unless (eqb (getD b 0 0) 1) 4 (omega arith) (omega arith)))
     (then-holds Listed (programNumber b) _ (program-listed b)
     (then-holds Listed (turnSlotNumber b) _
-    (then-holds Listed (short (4 + programLength b) b) _ (listed-short (4 + programLength b) b) (listed-unless (isTurnSlot (turnSlotOf b)) 7 (omega arith) (omega arith)))
+    (then-holds Listed (short (slotsAt b) b) _ (listed-short (slotsAt b) b) (listed-unless (isTurnSlot (turnSlotOf b)) 7 (omega arith) (omega arith)))
     (then-holds Listed (slotsNumber 16 0 n (slotsPart b)) _ (slots-listed 16 0 n (slotsPart b))
     (then-holds Listed (tailNumber b) _ (listed-unless (eqb (length (skip 16 (slotsPart b))) 0) 11 (omega arith) (omega arith))
     (listed-unless (sparesUnused (slotsOf 16 (slotsPart b))) 12 (omega arith) (omega arith))))))
@@ -242,7 +242,7 @@ pub record-part : (b : List ℕ) (s : ℕ) → Bytes b → imageNumber b ≡ 0 �
 unfolding recordPart stateOf slotsPart
 record-part b s h e l =
     rw (le-leb s 15 l, e, slot-at 16 s (slotsPart b) (omega arith))
-    (sym (record-at 16 s 0 (count (programOf b)) (slotsPart b) (bytes-drop (4 + programLength b) b h) (in-order b e .slots) (omega arith)))
+    (sym (record-at 16 s 0 (count (programOf b)) (slotsPart b) (bytes-drop (slotsAt b) b h) (in-order b e .slots) (omega arith)))
 
 -- a slot above 15 has none, nor has a refused image
 pub record-above : (b : List ℕ) (s : ℕ) → (s ≤ 15 → ⊥) → recordPart b s ≡ []
@@ -257,9 +257,9 @@ record-refused b s h = rw (ne-eqb (imageNumber b) 0 h, and-false)
 pub record-inside : (b : List ℕ) (s : ℕ) → recordPart b s ≡ take (length (recordPart b s)) (drop (recordStart b s) b)
 unfolding recordPart recordStart slotsPart
 record-inside b s =
-    let part = drop (4 + programLength b) b in
-    let at : drop 2 (skip s part) ≡ drop (4 + programLength b + span s part + 2) b
-    = ap (drop 2) (skip-drop s part ∙ drop-drop (span s part) (4 + programLength b) b) ∙ drop-drop 2 (4 + programLength b + span s part) b in
+    let part = drop (slotsAt b) b in
+    let at : drop 2 (skip s part) ≡ drop (slotsAt b + span s part + 2) b
+    = ap (drop 2) (skip-drop s part ∙ drop-drop (span s part) (slotsAt b) b) ∙ drop-drop 2 (slotsAt b + span s part) b in
     split (leb s 15 && eqb (imageNumber b) 0)
     (λ e. rw (e, ← at) (take-length-take (recordLength (skip s part)) (drop 2 (skip s part))))
     (λ e. rw e)

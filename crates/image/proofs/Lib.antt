@@ -1,3 +1,4 @@
+-- The laws of the crate `image`, a file each.
 pub mod Refusal
 pub mod Record
 pub mod Slots

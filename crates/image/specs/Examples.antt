@@ -1,4 +1,5 @@
--- Small images: the shortest and the longest, one for each number, and those with two faults, which get the first met.
+-- Images as rows of one claim: the shortest and the longest, one for each number, and those with two faults, which get the
+-- first met.
 use Prim.Native.Nat.{ℕ, zero, suc}
 use mathlib.Core.Path.{_≡_}
 use mathlib.Core.List.{List, [], _∷_, _++_}
@@ -55,6 +56,8 @@ pub record Examples : Type 0 where
   pub turnSlot : imageNumber (set shortestImage 7 16) ≡ 7
   pub recordLength : imageNumber (set shortestImage 9 36) ≡ 8
   pub tail : imageNumber (shortestImage ++ (0 ∷ [])) ≡ 11
+  -- "neither 0 nor 37 + 6 × k, k at most 64": 65 messages
+  pub tooLong : numberOf (one 3 (ofTwo 65)) ≡ 8
   -- "4 messages of one label accepted, 5 refused with 10."
   pub mail : (numberOf (one 3 (ofTwo 4)) ≡ 0) × (numberOf (one 3 (ofTwo 5)) ≡ 10)
   -- "Spare 12 in slot 3 accepted, 13 refused with 9."

@@ -24,7 +24,7 @@ abbrev pub turnSlotAt : List ℕ → ℕ
 turnSlotAt b = programAt + programLength b
 
 abbrev pub slotsAt : List ℕ → ℕ
-slotsAt b = 4 + programLength b
+slotsAt b = turnSlotAt b + 1
 
 abbrev pub programOf : List ℕ → List ℕ
 programOf b = take (programLength b) (drop programAt b)

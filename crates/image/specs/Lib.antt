@@ -1,3 +1,4 @@
+-- The definitions of the crate `image`, a file each.
 pub mod Refusal
 pub mod Record
 pub mod Image

@@ -13,16 +13,16 @@ abbrev pub kindAt : ℕ
 kindAt = 0
 
 abbrev pub labelAt : ℕ
-labelAt = 1
+labelAt = kindAt + 1
 
 abbrev pub spareAt : ℕ
-spareAt = 2
+spareAt = labelAt + 1
 
 abbrev pub pcAt : ℕ
-pcAt = 3
+pcAt = spareAt + 1
 
 abbrev pub registersAt : ℕ
-registersAt = 5
+registersAt = pcAt + 2
 
 abbrev pub mailboxAt : ℕ
 mailboxAt = registersAt + 8 * 4

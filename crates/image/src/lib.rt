@@ -1,1 +1,1 @@
-// The image: what its bytes mean; the check and the reader over it come with the calls that need them.
+// What the bytes of an image mean: definitions in specs/ and laws in proofs/, for the code that reads and writes images.

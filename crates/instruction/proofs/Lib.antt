@@ -1,2 +1,3 @@
+-- The laws of the crate `instruction`, a file each.
 pub mod Table
 pub mod Program

@@ -20,11 +20,13 @@ pub enum Instruction {
     Identity(u8, u8),
 }
 
+// What four bytes decode to: an instruction of the table, or none.
 pub enum Decoded {
     Legal(Instruction),
     Illegal,
 }
 
+// The instruction, where its operands are within the table.
 fn legal_if(ok: bool, i: Instruction) -> Decoded
     ensures { λ r. ⌜ r ≡ legalIf ok i ⌝ }
 {
@@ -106,7 +108,7 @@ pub fn instruction_at(program: &[u8], pc: usize) -> Decoded
     }
 }
 
-// Whether four bytes hold an instruction of the table.
+// Whether an instruction was decoded.
 fn is_legal(d: Decoded) -> bool
     ensures { λ r. ⌜ r ≡ isLegal d ⌝ }
 {

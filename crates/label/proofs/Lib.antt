@@ -1,2 +1,3 @@
+-- The laws of the crate `label`, a file each.
 pub mod Order
 pub mod Masks

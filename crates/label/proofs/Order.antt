@@ -12,10 +12,10 @@ use Rattle.label.specs.Label.{bit, flows, join}
 
 -- what the machine's laws ask of an order on labels: a preorder, with a join above its first argument and within the labels
 pub record Order (flows : ℕ → ℕ → Bool) (join : ℕ → ℕ → ℕ) : Type 0 where
-  pub same : (k : ℕ) → flows k k ≡ true
-  pub chain : (k l m : ℕ) → flows k l ≡ true → flows l m ≡ true → flows k m ≡ true
-  pub above : (k m : ℕ) → flows k (join k m) ≡ true
-  pub within : (k m : ℕ) → k ≤ 15 → m ≤ 15 → join k m ≤ 15
+  pub reflexive : (k : ℕ) → flows k k ≡ true
+  pub transitive : (k l m : ℕ) → flows k l ≡ true → flows l m ≡ true → flows k m ≡ true
+  pub join-above : (k m : ℕ) → flows k (join k m) ≡ true
+  pub join-label : (k m : ℕ) → k ≤ 15 → m ≤ 15 → join k m ≤ 15
 
 -- an observer that sees a label sees every label that flows to it
 abbrev pub DownClosed : (ℕ → ℕ → Bool) → (ℕ → Bool) → Type 0
@@ -30,15 +30,16 @@ module _ (k m : ℕ) where
   unfolding flows
   flows-at e o l = leb-true (bit o k) (bit o m) (each-at 8 (λ o. leb (bit o k) (bit o m)) e o l)
 
-bit-join : (o k m : ℕ) → bit o (join k m) ≡ max (bit o k) (bit o m)
+-- a join has the bits of either
+pub bit-join : (o k m : ℕ) → bit o (join k m) ≡ max (bit o k) (bit o m)
 bit-join o k m = rw (or-shr k m o, or-step) (omega arith)
 
 pub label-order : Order flows join
 label-order = record {
-  same = λ k. flows-intro k k (λ o l. omega arith);
-  chain = λ k l m p q. flows-intro k m (λ o h. omega (arith, flows-at k l p o h, flows-at l m q o h));
-  above = λ k m. flows-intro k (join k m) (λ o l. omega (arith, bit-join o k m));
-  within = λ k m p q. omega (arith, or-lt 4 k m (omega arith) (omega arith));
+  reflexive = λ k. flows-intro k k (λ o l. omega arith);
+  transitive = λ k l m p q. flows-intro k m (λ o h. omega (arith, flows-at k l p o h, flows-at l m q o h));
+  join-above = λ k m. flows-intro k (join k m) (λ o l. omega (arith, bit-join o k m));
+  join-label = λ k m p q. omega (arith, or-lt 4 k m (omega arith) (omega arith));
 }
 
 -- every label flows to 15: computed for the sixteen labels

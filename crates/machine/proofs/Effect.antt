@@ -80,7 +80,7 @@ module _ (flows : ℕ → ℕ → Bool) where
     module _ (s : ℕ) (t : Task) where
       -- only the task itself changes, and neither its label nor its spare
       withoutAction-contained : (t′ : Task) → t .label ≡ t′ .label → t .spare ≡ t′ .spare → Contained s t (withoutAction t′)
-      withoutAction-contained t′ l k = record { rises = rw l (order .same (t′ .label)); allowed = omega arith }
+      withoutAction-contained t′ l k = record { rises = rw l (order .reflexive (t′ .label)); allowed = omega arith }
 
       taken-contained : (a b : ℕ) (idle : Task) → Contained s t (withoutAction idle) → (o : Option Message) → Contained s t (taken flows a b idle t o)
       taken-contained a b idle h none = h
@@ -96,17 +96,17 @@ module _ (flows : ℕ → ℕ → Bool) where
       execute-contained n (Go a) h = withoutAction-contained _ refl refl
       execute-contained n (Zero a b) h =
           split (eqb (register t a) 0) (λ e. rw e (withoutAction-contained _ refl refl)) (λ e. rw e (withoutAction-contained _ refl refl))
-      execute-contained n (Raise a) h = record { rises = order .above (t .label) a; allowed = omega arith }
+      execute-contained n (Raise a) h = record { rises = order .join-above (t .label) a; allowed = omega arith }
       execute-contained n (Send a b c) h =
           split (flows (t .label) b)
-          (λ e. rw e record { rises = order .same (t .label); allowed = (omega arith, e) })
+          (λ e. rw e record { rises = order .reflexive (t .label); allowed = (omega arith, e) })
           (λ e. rw e (withoutAction-contained _ refl refl))
       execute-contained n (Take a b) h = taken-contained a b t (withoutAction-contained _ refl refl) (oldest flows t)
       execute-contained n (Poll a b c) h = taken-contained a b (withPc c t) (withoutAction-contained _ refl refl) (oldest flows t)
       execute-contained n (Sandbox a b c) h =
           split (leb c (t .spare))
           (λ e. let fits : c ≤ t .spare = leb-true c (t .spare) e in
-          rw e record { rises = order .same (t .label); allowed = (omega arith, omega arith, order .same (t .label)) })
+          rw e record { rises = order .reflexive (t .label); allowed = (omega arith, omega arith, order .reflexive (t .label)) })
           (λ e. rw e (withoutAction-contained _ refl refl))
       execute-contained n (Identity a b) h = withoutAction-contained _ refl refl
 

@@ -1,3 +1,4 @@
+-- The laws of the crate `machine`, a file each.
 pub mod Rules
 pub mod Mailbox
 pub mod Effect

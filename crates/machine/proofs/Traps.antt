@@ -29,22 +29,23 @@ message label = record { label = label; sender = 9; value = 7 }
 abbrev state : List ℕ → ℕ → Task → ℕ → Task → State
 state instruction s t s′ t′ = record { program = instruction; turnSlot = s; slots = set (set (replicate 16 unused) s (used t)) s′ (used t′) }
 
-abbrev send : ℕ → List ℕ
-send label = 0x08 ∷ 1 ∷ label ∷ 2 ∷ []
+-- a send to slot j, which its register holds
+abbrev send : ℕ → ℕ → List ℕ
+send j label = 0x08 ∷ j ∷ label ∷ 3 ∷ []
 
 pub record Traps : Type 0 where
   -- one common mailbox limit: four hidden messages wait, and a public one comes
-  pub limit : ShownAlike 0 (state (send 0) 0 (task 0 0) 1 (withMailbox (replicate 4 (message 1)) (task 0 0)))
+  pub limit : ShownAlike 0 (state (send 1 0) 0 (task 0 0) 1 (withMailbox (replicate 4 (message 1)) (task 0 0)))
   -- a sender that learns of its receiver: the receiver is hidden
-  pub told : ShownAlike 0 (state (send 1) 0 (task 0 0) 1 (task 1 0))
+  pub told : ShownAlike 0 (state (send 2 1) 0 (task 0 0) 2 (task 1 0))
   -- a child in the lowest unused slot: a hidden task stands in slot 0
   pub child : ShownAlike 0 (state (0x0B ∷ 0 ∷ 0 ∷ 2 ∷ []) 5 (task 0 4) 0 (task 1 0))
   -- slots without a live task skipped: the next live task is hidden
   pub skipped : ShownAlike 0 (state (0x01 ∷ 0 ∷ 0 ∷ 0 ∷ []) 0 (task 0 0) 1 (task 1 0))
   -- the oldest message taken and its label tested then: the oldest is hidden
-  pub oldest : ShownAlike 0 (state (0x09 ∷ 0 ∷ 1 ∷ 0 ∷ []) 0 (withMailbox (message 1 ∷ message 0 ∷ []) (task 0 0)) 1 (task 1 0))
+  pub oldest : ShownAlike 0 (state (0x09 ∷ 0 ∷ 1 ∷ 0 ∷ []) 0 (withMailbox (message 1 ∷ message 0 ∷ []) (task 0 0)) 2 (task 1 0))
   -- a send that skips its label check: the sender is hidden
-  pub unchecked : ShownAlike 0 (state (send 0) 0 (task 1 0) 1 (task 0 0))
+  pub unchecked : ShownAlike 0 (state (send 1 0) 0 (task 1 0) 1 (task 0 0))
   -- a raise that replaces the label: the task is hidden from the observer of label 2
   pub replaced : ShownAlike 2 (state (0x07 ∷ 2 ∷ 0 ∷ 0 ∷ []) 0 (task 1 0) 1 (task 0 0))
 

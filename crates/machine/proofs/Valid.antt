@@ -1,7 +1,8 @@
 -- Valid states stay valid: an outcome keeps every range, so a turn does, and so does a view.
 use Prim.Native.Nat.{ℕ, zero, suc, _+_, _-_, _*_, _^_, _≤_, _<_}
+use mathlib.Core.Logic.{_≢_}
 use mathlib.Core.Path.{_≡_, refl}
-use mathlib.Core.Bool.{Bool, _&&_}
+use mathlib.Core.Bool.{Bool, true, _&&_}
 use mathlib.Core.Option.{Option, none, some}
 use mathlib.Core.List.{List, [], _∷_, _++_, map}
 use native.Mathlib.Nat.{mod-lt}
@@ -17,9 +18,9 @@ use Rattle.instruction.specs.declared.Instruction.the-variants.{End, Set, Copy,
 use Rattle.instruction.specs.declared.Decoded.{Decoded}
 use Rattle.instruction.specs.declared.Decoded.the-variants.{Legal, Illegal}
 use Rattle.instruction.specs.Table.{encode}
-use Rattle.instruction.specs.Program.{count, instructionAt}
+use Rattle.instruction.specs.Program.{count, instructionAt, isLegal}
 use Rattle.instruction.proofs.Table.{Sound}
-use Rattle.instruction.proofs.Program.{at-below, at-sound, at-bytes}
+use Rattle.instruction.proofs.Program.{at-below, at-sound, at-bytes, legal-at}
 use Rattle.machine.specs.State.{Message, Task, Slot, unused, used, State, slotAt, spareOf, withKind, withLabel, withSpare, withPc, withMailbox, register, withRegister, next}
 use Rattle.machine.specs.Effect.{Action, noAction, deliver, spawn, Outcome, withoutAction, childOf, childSlot, receivable, oldest, taken, execute, carriedOut, outcome}
 use Rattle.machine.specs.Turn.{hasRoom, enqueue, perform, applied, successor, step, turn, turns}
@@ -127,7 +128,7 @@ module _ (flows : ℕ → ℕ → Bool) (join : ℕ → ℕ → ℕ) (order : Or
     execute-ok (Go a) h g = withoutAction-ok _ (pc-ok n s t ok a (omega arith))
     execute-ok (Zero a b) h g =
         split (eqb (register t a) 0) (λ e. rw e (withoutAction-ok _ (pc-ok n s t ok b (omega arith)))) (λ e. rw e (withoutAction-ok _ (next-ok n s t ok before)))
-    execute-ok (Raise a) h g = withoutAction-ok _ (next-ok n s _ (label-ok n s t ok (join (t .label) a) (order .within (t .label) a (ok .label) (h .0))) before)
+    execute-ok (Raise a) h g = withoutAction-ok _ (next-ok n s _ (label-ok n s t ok (join (t .label) a) (order .join-label (t .label) a (ok .label) (h .0))) before)
     execute-ok (Send a b c) h g =
         split (flows (t .label) b)
         (λ e. rw e record { task = next-ok n s t ok before; action = record { label = h .1; sender = omega (arith, ok .spare); value = ok .words c } })
@@ -204,6 +205,12 @@ module _ (s : State) (ok : Valid s) where
     fits = λ i l. slot-fits i (slotAt (s .slots) i) l (tasks-facts i);
     free = spares-free (s .slots) (ok .slotCount) (ok .spares);
   }
+
+  -- a task that has not come to place N has an instruction to carry out
+  pub instruction-met : (i : ℕ) (t : Task) → slotAt (s .slots) i ≡ used t → t .pc ≢ count (s .program) → isLegal (instructionAt (s .program) (t .pc)) ≡ true
+  instruction-met i t at ne =
+      let f : TaskFacts (count (s .program)) i t = rw at at (tasks-facts i) in
+      legal-at (s .program) (ok .legal) (t .pc) (omega (arith, f .pc))
 
   -- other slots, with the same program and a turn slot in range
   with-slots : (turnSlot : ℕ) (ss : List Slot) → turnSlot ≤ 15 → SlotsFacts (count (s .program)) ss → Spares ss

@@ -1,3 +1,4 @@
+-- The definitions of the crate `machine`, a file each.
 pub mod State
 pub mod Effect
 pub mod Turn

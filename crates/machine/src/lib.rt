@@ -1,1 +1,1 @@
-// The meaning of document 01: definitions in specs/, their laws in proofs/; the code over them is the crates' above.
+// The meaning of document 01: definitions in specs/ and laws in proofs/, for the code of other crates.

@@ -1,6 +1,5 @@
 -- Laws of a call: when it is accepted, what it then tells and writes, and which numbers it may tell.
-use Prim.Native.Nat.{ℕ, zero, suc, _≤_}
-use mathlib.Core.Logic.{_≢_}
+use Prim.Native.Nat.{ℕ, _≤_}
 use mathlib.Core.Path.{_≡_, refl, sym, _∙_}
 use mathlib.Core.Bool.{cond}
 use mathlib.Core.List.{List, []}
@@ -10,7 +9,6 @@ use lib.Dec.{leb, eqb}
 use lib.ListN.{length, take}
 use Rattle.wire.proofs.Lists.{split}
 use Rattle.wire.proofs.Output.{take-overwrite, drop-overwrite, length-overwrite}
-use Rattle.image.specs.Refusal.{_then_, unless}
 use Rattle.image.specs.Image.{imageNumber}
 use Rattle.image.proofs.Refusal.{then-left, then-right, then-holds, unless-holds, unless-none}
 use Rattle.monitor.specs.Calls.{Call, callNumber, callAnswer, callOutput}

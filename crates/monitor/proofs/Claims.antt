@@ -22,16 +22,17 @@ use Rattle.monitor.proofs.Secrecy.{read-valid, rewritten, written-accep
 
 pub numbers-are-listed : NumbersAreListed
 numbers-are-listed image out =
-    let i = image-listed image in
-    (number-holds (rewriteCall image) image out (λ x. (x ≤ 13) × (x ≢ 1) × (x ≢ 2))
-    (omega arith, λ e. omega arith, λ e. omega arith) (omega (arith, i .most), i .not-1, i .not-2)
-    (omega arith, λ e. omega arith, λ e. omega arith) (omega arith, λ e. omega arith, λ e. omega arith),
-    λ n. number-holds (turnsCall n image) image out (λ x. (x ≤ 13) × (x ≢ 1))
-    (unless-holds (λ x. (x ≤ 13) × (x ≢ 1)) (leb n 1000000) 2 (omega arith, λ e. omega arith) (omega arith, λ e. omega arith))
-    (omega (arith, i .most), i .not-1) (omega arith, λ e. omega arith) (omega arith, λ e. omega arith),
-    λ v. number-holds (viewCall v image) image out (λ x. (x ≤ 13) × (x ≢ 2))
-    (unless-holds (λ x. (x ≤ 13) × (x ≢ 2)) (leb v 15) 1 (omega arith, λ e. omega arith) (omega arith, λ e. omega arith))
-    (omega (arith, i .most), i .not-2) (omega arith, λ e. omega arith) (omega arith, λ e. omega arith))
+    let i = image-listed image in (
+      number-holds (rewriteCall image) image out (λ x. (x ≤ 13) × (x ≢ 1) × (x ≢ 2))
+          (omega arith, λ e. omega arith, λ e. omega arith) (omega (arith, i .most), i .not-1, i .not-2)
+          (omega arith, λ e. omega arith, λ e. omega arith) (omega arith, λ e. omega arith, λ e. omega arith),
+      λ n. number-holds (turnsCall n image) image out (λ x. (x ≤ 13) × (x ≢ 1))
+          (unless-holds (λ x. (x ≤ 13) × (x ≢ 1)) (leb n 1000000) 2 (omega arith, λ e. omega arith) (omega arith, λ e. omega arith))
+          (omega (arith, i .most), i .not-1) (omega arith, λ e. omega arith) (omega arith, λ e. omega arith),
+      λ v. number-holds (viewCall v image) image out (λ x. (x ≤ 13) × (x ≢ 2))
+          (unless-holds (λ x. (x ≤ 13) × (x ≢ 2)) (leb v 15) 1 (omega arith, λ e. omega arith) (omega arith, λ e. omega arith))
+          (omega (arith, i .most), i .not-2) (omega arith, λ e. omega arith) (omega arith, λ e. omega arith),
+    )
 
 pub calls-are-accepted-exactly : CallsAreAcceptedExactly
 calls-are-accepted-exactly = accepted-exactly
@@ -43,10 +44,11 @@ room s ok out h = omega (arith, accepted-length (imageBytes s) (in-order (imageB
 pub others-are-accepted : OthersAreAccepted
 others-are-accepted image out a h =
     let s = stateOf image in
-    let ok = read-valid image a in
-    (accepted-exactly (rewriteCall image) image out .always refl (a .number) (room s ok out h),
-    λ n l. accepted-exactly (turnsCall n image) image out .always (rw (le-leb n 1000000 l)) (a .number) (room (turns n s) (turns-valid n s ok) out h),
-    λ v l. accepted-exactly (viewCall v image) image out .always (rw (le-leb v 15 l)) (a .number) (room (view v s) (view-valid v s ok) out h))
+    let ok = read-valid image a in (
+      accepted-exactly (rewriteCall image) image out .always refl (a .number) (room s ok out h),
+      λ n l. accepted-exactly (turnsCall n image) image out .always (rw (le-leb n 1000000 l)) (a .number) (room (turns n s) (turns-valid n s ok) out h),
+      λ v l. accepted-exactly (viewCall v image) image out .always (rw (le-leb v 15 l)) (a .number) (room (view v s) (view-valid v s ok) out h),
+    )
 
 pub calls-write-their-answer : CallsWriteTheirAnswer
 calls-write-their-answer = writes-its-answer

@@ -1,3 +1,4 @@
+-- The laws of the crate `monitor`, a file each.
 pub mod Calls
 pub mod Secrecy
 pub mod Claims

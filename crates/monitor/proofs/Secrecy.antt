@@ -11,7 +11,7 @@ use Rattle.wire.proofs.Lists.{split}
 use Rattle.machine.specs.State.{State}
 use Rattle.machine.specs.Turn as Turn
 use Rattle.machine.specs.Valid.{Valid}
-use Rattle.machine.specs.Machine.{turns, view, busy}
+use Rattle.machine.specs.Machine.{turns, view}
 use Rattle.machine.proofs.Machine.{turns-valid, view-valid, turns-add, turns-same}
 use Rattle.image.specs.Refusal.{unless}
 use Rattle.image.specs.Image.{stateOf, imageBytes}
@@ -75,11 +75,11 @@ module _ (v : ℕ) (seen : v ≤ 15) where
 -- ---- a list of calls comes to its sum of turns
 
 -- the turns that one call carries out
-abbrev carriedOut : TurnCall → List ℕ → ℕ
-carriedOut c image = cond (isAccepted c image) (c .n) 0
+abbrev turnsOf : TurnCall → List ℕ → ℕ
+turnsOf c image = cond (isAccepted c image) (c .n) 0
 
 -- an accepted call leaves the image after its turns, and a refused one the image itself
-after-call : (c : TurnCall) (image : List ℕ) → Accepted image → imageAfter c image ≡ imageBytes (turns (carriedOut c image) (stateOf image))
+after-call : (c : TurnCall) (image : List ℕ) → Accepted image → imageAfter c image ≡ imageBytes (turns (turnsOf c image) (stateOf image))
 unfolding Turn.turns
 after-call c image a =
     split (isAccepted c image)
@@ -91,7 +91,7 @@ pub after-calls : (cs : List TurnCall) (image : List ℕ) → Accepted image
 unfolding Turn.turns
 after-calls [] image a = sym (rewritten image a)
 after-calls (c ∷ cs) image a =
-    let m = carriedOut c image in
+    let m = turnsOf c image in
     let s = stateOf image in
     let ok = turns-valid m s (read-valid image a) in
     let next : Accepted (imageAfter c image) = rw (after-call c image a) (written-accepted (turns m s) ok) in

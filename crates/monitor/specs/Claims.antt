@@ -12,7 +12,7 @@ use Rattle.machine.specs.Valid.{Valid}
 use Rattle.image.specs.Record.{recordBytes}
 use Rattle.image.specs.Image.{imageNumber, stateOf, imageBytes, recordStart}
 use Rattle.monitor.specs.declared.Answer.{Answer}
-use Rattle.monitor.specs.Calls.{recordAnswer, Call, callAnswer, callOutput, rewriteCall, rewriteAnswer, rewriteOutput, turnsAnswer, turnsOutput, viewBytes, viewAnswer, viewOutput}
+use Rattle.monitor.specs.Calls.{recordAnswer, Call, callAnswer, callOutput, rewriteCall, rewriteAnswer, turnsAnswer, turnsOutput, viewBytes, viewAnswer, viewOutput}
 
 -- an accepted image: bytes whose number is 0
 pub record Accepted (image : List ℕ) : Type 0 where

@@ -1,3 +1,4 @@
+-- The definitions of the crate `monitor`, a file each.
 pub mod Calls
 pub mod Claims
 pub mod Examples

@@ -1,3 +1,4 @@
+-- The definitions of the crate `wire`, a file each.
 pub mod Lists
 pub mod Numbers
 pub mod Output
