@@ -1,19 +1,19 @@
 -- The example images, each row by computation.
 use mathlib.Core.Path.{refl}
 use Rattle.wire.specs.Lists as Lists
+use Rattle.wire.specs.Items as Items
 use Rattle.instruction.specs.Table as Table
 use Rattle.instruction.specs.Program as Program
 use Rattle.machine.specs.Valid as Valid
-use Rattle.image.specs.Record as Record
 use Rattle.image.specs.Image as Image
 use Rattle.image.specs.Examples.{Examples}
 
 pub examples : Examples
-unfolding Lists.each Lists.all Table.decode Program.instructionAt Program.allLegal Record.messagesOf
-    Record.wordsOf Record.mailboxBytes Record.wordsBytes Image.programLength Image.slotsPart
+unfolding Lists.each Lists.all Table.decode Program.instructionAt Program.allLegal Items.decodeItems
+    Items.encodeItems Image.programLength Image.slotsPart
     Image.versionNumber Valid.isProgramLength Image.programNumber Image.turnSlotNumber Image.recordLength
     Image.skip Image.slotsOf Image.isRecordLength Image.slotNumber Image.slotsNumber Image.tailNumber
-    Valid.sparesUnused Image.spareNumber Image.imageNumber Image.slotsBytes Image.imageBytes
+    Valid.sparesUnused Image.spareNumber Image.imageNumber Image.imageBytes
 examples = record {
   shortest = (refl, refl);
   longest = (refl, refl);

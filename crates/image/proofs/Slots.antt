@@ -10,6 +10,7 @@ use lib.Dec.{leb, eqb}
 use lib.ListN.{length, take, drop, length-append, length-drop, take-append-drop}
 use lib.Seq.{take-add, length-take-le, take-append-seam, drop-append-seam, drop-drop}
 use Rattle.wire.specs.Lists.{Bytes}
+use Rattle.wire.specs.Items.{encodeItems}
 use Rattle.wire.specs.Numbers.{encodeNumber}
 use Rattle.wire.proofs.Lists.{split, and-both, bytes-take, bytes-drop, bytes-append, bytes-nil}
 use Rattle.wire.proofs.Numbers.{encode-decode, decode-encode, encode-bytes}
@@ -99,7 +100,7 @@ module _ (s n : ℕ) (b : List ℕ) (h : Bytes b) (ok : SlotInOrder s n b) where
       rw r (ap₂ (λ (x y : List ℕ). x ++ y) (ap (encodeNumber 2) recordOf-length ∙ encode-decode 2 b h (ok .two)) refl ∙ sym (take-add 2 (recordLength b) b))
 
 pub slots-back : (k s n : ℕ) (b : List ℕ) → Bytes b → slotsNumber k s n b ≡ 0 → slotsBytes (slotsOf k b) ++ skip k b ≡ b
-unfolding slotsBytes slotsOf skip slotsNumber
+unfolding encodeItems slotsOf skip slotsNumber
 slots-back zero s n b h e = refl
 slots-back (suc k) s n b h e =
     let ok = slot-in-order s n b (then-left _ _ e) in
@@ -212,27 +213,27 @@ module _ (n : ℕ) (few : n ≤ 256) where
   first s x xs ok = rw add-zero at (ok 0)
 
   pub slots-number : (s : ℕ) (xs : List Slot) → ((i : ℕ) → ValidSlot n (s + i) (slotAt xs i)) → slotsNumber (length xs) s n (slotsBytes xs) ≡ 0
-  unfolding slotsNumber slotsBytes
+  unfolding slotsNumber encodeItems
   slots-number s [] ok = refl
   slots-number s (x ∷ xs) ok =
       then-none _ _ (front-number n s x (slotsBytes xs) few (first s x xs ok))
       (ap (slotsNumber (length xs) (s + 1) n) (front-behind n s x (slotsBytes xs) few (first s x xs ok)) ∙ slots-number (s + 1) xs (later s x xs ok))
 
   pub slots-forth : (s : ℕ) (xs : List Slot) → ((i : ℕ) → ValidSlot n (s + i) (slotAt xs i)) → slotsOf (length xs) (slotsBytes xs) ≡ xs
-  unfolding slotsOf slotsBytes
+  unfolding slotsOf encodeItems
   slots-forth s [] ok = refl
   slots-forth s (x ∷ xs) ok =
       ap₂ (λ (y : Slot) (ys : List Slot). y ∷ ys) (front-slot n s x (slotsBytes xs) few (first s x xs ok))
       (ap (slotsOf (length xs)) (front-behind n s x (slotsBytes xs) few (first s x xs ok)) ∙ slots-forth (s + 1) xs (later s x xs ok))
 
   pub slots-end : (s : ℕ) (xs : List Slot) → ((i : ℕ) → ValidSlot n (s + i) (slotAt xs i)) → skip (length xs) (slotsBytes xs) ≡ []
-  unfolding skip slotsBytes
+  unfolding skip encodeItems
   slots-end s [] ok = refl
   slots-end s (x ∷ xs) ok =
       ap (skip (length xs)) (front-behind n s x (slotsBytes xs) few (first s x xs ok)) ∙ slots-end (s + 1) xs (later s x xs ok)
 
   pub slots-bytes : (s : ℕ) (xs : List Slot) → ((i : ℕ) → ValidSlot n (s + i) (slotAt xs i)) → Bytes (slotsBytes xs)
-  unfolding slotsBytes
+  unfolding encodeItems
   slots-bytes s [] ok = bytes-nil
   slots-bytes s (x ∷ xs) ok =
       let r = recordBytes x in

@@ -5,6 +5,7 @@ use mathlib.Core.List.{List, [], _∷_, _++_}
 use lib.Dec.{leb, eqb}
 use lib.ListN.{length, getD, take, drop}
 use Rattle.wire.specs.Numbers.{decodeNumber, encodeNumber}
+use Rattle.wire.specs.Items.{encodeItems}
 use Rattle.instruction.specs.Program.{count, allLegal}
 use Rattle.machine.specs.State.{Slot, State}
 use Rattle.machine.specs.Valid.{isProgramLength, isTurnSlot, sparesUnused}
@@ -132,9 +133,8 @@ recordPart b s = cond (leb s 15 && eqb (imageNumber b) 0) (recordOf (skip s (slo
 abbrev pub slotBytes : Slot → List ℕ
 slotBytes x = encodeNumber 2 (length (recordBytes x)) ++ recordBytes x
 
-unfoldable pub slotsBytes : List Slot → List ℕ
-slotsBytes [] = []
-slotsBytes (x ∷ xs) = slotBytes x ++ slotsBytes xs
+abbrev pub slotsBytes : List Slot → List ℕ
+slotsBytes = encodeItems slotBytes
 
 unfoldable pub imageBytes : State → List ℕ
 imageBytes s = 1 ∷ encodeNumber 2 (length (s .program)) ++ s .program ++ s .turnSlot ∷ slotsBytes (s .slots)

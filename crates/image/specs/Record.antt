@@ -1,8 +1,9 @@
 -- A slot's record: its layout, the task in it, the task's bytes, and the numbers 9 and 10.
-use Prim.Native.Nat.{ℕ, zero, suc, _+_, _*_, _/_}
+use Prim.Native.Nat.{ℕ, _+_, _*_, _/_}
 use mathlib.Core.List.{List, [], _∷_, _++_}
 use lib.ListN.{length, getD, drop}
 use Rattle.wire.specs.Numbers.{decodeNumber, encodeNumber}
+use Rattle.wire.specs.Items.{decodeItems, encodeItems}
 use Rattle.machine.specs.State.{Message, Task, Slot, unused, used}
 use Rattle.machine.specs.Valid.{fieldsInRange, mailInRange}
 use Rattle.image.specs.Refusal.{_then_, unless}
@@ -36,16 +37,6 @@ messageSize = 6
 abbrev pub messageOf : List ℕ → Message
 messageOf b = record { label = getD b 0 0; sender = getD b 1 0; value = decodeNumber 4 (drop 2 b) }
 
--- the first k messages of b
-unfoldable pub messagesOf : ℕ → List ℕ → List Message
-messagesOf zero b = []
-messagesOf (suc k) b = messageOf b ∷ messagesOf k (drop messageSize b)
-
--- the first k words of b
-unfoldable pub wordsOf : ℕ → List ℕ → List ℕ
-wordsOf zero b = []
-wordsOf (suc k) b = decodeNumber 4 b ∷ wordsOf k (drop 4 b)
-
 -- kind (1), label (1), spare (1), place (2), registers 0 to 7 (4 each), and the messages
 abbrev pub taskOf : List ℕ → Task
 taskOf r =
@@ -54,8 +45,8 @@ taskOf r =
       label = getD r labelAt 0;
       spare = getD r spareAt 0;
       pc = decodeNumber 2 (drop pcAt r);
-      registers = wordsOf 8 (drop registersAt r);
-      mailbox = messagesOf (length (drop mailboxAt r) / messageSize) (drop mailboxAt r);
+      registers = decodeItems 4 (decodeNumber 4) 8 (drop registersAt r);
+      mailbox = decodeItems messageSize messageOf (length (drop mailboxAt r) / messageSize) (drop mailboxAt r);
     }
 
 -- an unused slot has no record
@@ -68,16 +59,9 @@ slotOf (x ∷ r) = used (taskOf (x ∷ r))
 abbrev pub messageBytes : Message → List ℕ
 messageBytes m = m .label ∷ m .sender ∷ encodeNumber 4 (m .value)
 
-unfoldable pub mailboxBytes : List Message → List ℕ
-mailboxBytes [] = []
-mailboxBytes (m ∷ ms) = messageBytes m ++ mailboxBytes ms
-
-unfoldable pub wordsBytes : List ℕ → List ℕ
-wordsBytes [] = []
-wordsBytes (x ∷ xs) = encodeNumber 4 x ++ wordsBytes xs
-
 abbrev pub taskBytes : Task → List ℕ
-taskBytes t = t .kind ∷ t .label ∷ t .spare ∷ encodeNumber 2 (t .pc) ++ wordsBytes (t .registers) ++ mailboxBytes (t .mailbox)
+taskBytes t =
+    t .kind ∷ t .label ∷ t .spare ∷ encodeNumber 2 (t .pc) ++ encodeItems (encodeNumber 4) (t .registers) ++ encodeItems messageBytes (t .mailbox)
 
 abbrev pub recordBytes : Slot → List ℕ
 recordBytes unused = []

@@ -9,7 +9,7 @@ use borrow.Author.Tests.{leb-true, le-leb, eqb-true}
 use lib.Dec.{leb, eqb}
 use lib.ListN.{length, List·getD-eq-default}
 use Rattle.wire.specs.Lists.{each, all, Every}
-use Rattle.wire.proofs.Lists.{and-both, and-intro, each-intro, each-at, every-all}
+use Rattle.wire.proofs.Lists.{and-both, and-intro, each-intro, each-at, every-at, every-of, every-all}
 use Rattle.machine.specs.State.{lastSender, Message, Task, Slot, unused, used, slotAt, isUnused, spareOf, register}
 use Rattle.machine.specs.Turn.{ofLabel}
 use Rattle.machine.specs.Valid.{isProgramLength, messageInRange, mailInRange, sparesUnused, ValidTask, ValidSlot}
@@ -90,7 +90,7 @@ module _ (n s : ℕ) where
         spare = leb-true _ _ (spare .1);
         pc = leb-true _ _ (pc .1);
         registers = ok .registers;
-        words = ok .words;
+        words = every-at (λ (x : ℕ). x < 2 ^ 32) 0 (omega arith) (t .registers) (ok .words);
         mailbox = mailbox-facts (t .mailbox) (ok .mail) (ok .values);
       }
 
@@ -105,7 +105,7 @@ module _ (n s : ℕ) where
     );
     mail = mailbox-test (t .mailbox) (f .mailbox);
     registers = f .registers;
-    words = f .words;
+    words = every-of (λ (x : ℕ). x < 2 ^ 32) 0 (t .registers) (f .words);
     values = values-of (t .mailbox) (f .mailbox .each);
   }
 

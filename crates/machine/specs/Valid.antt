@@ -8,7 +8,7 @@ use lib.Dec.{leb, eqb}
 use lib.ListN.{length}
 use Rattle.wire.specs.Lists.{each, all, Bytes, Every}
 use Rattle.instruction.specs.Program.{count, allLegal}
-use Rattle.machine.specs.State.{lastSender, Message, Task, Slot, unused, used, State, slotAt, isUnused, spareOf, register}
+use Rattle.machine.specs.State.{lastSender, Message, Task, Slot, unused, used, State, slotAt, isUnused, spareOf}
 use Rattle.machine.specs.Turn.{limitPerLabel, ofLabel}
 
 -- 5 program length, in bytes: a multiple of 4 from 4 to 1,024
@@ -40,7 +40,7 @@ pub record ValidTask (n s : ℕ) (t : Task) : Type 0 where
   pub fields : fieldsInRange s n t ≡ true
   pub mail : mailInRange (t .mailbox) ≡ true
   pub registers : length (t .registers) ≡ 8
-  pub words : (a : ℕ) → register t a < 2 ^ 32
+  pub words : Every (λ x. x < 2 ^ 32) (t .registers)
   pub values : Every (λ m. m .value < 2 ^ 32) (t .mailbox)
 
 abbrev pub ValidSlot : ℕ → ℕ → Slot → Type 0

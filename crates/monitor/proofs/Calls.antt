@@ -7,6 +7,7 @@ use native.Mathlib.Omega.{arith}
 use borrow.Author.Tests.{leb-true, le-leb, eqb-true, eqb-false}
 use lib.Dec.{leb, eqb}
 use lib.ListN.{length, take}
+use Rattle.wire.specs.Output.{overwrite}
 use Rattle.wire.proofs.Lists.{split}
 use Rattle.wire.proofs.Output.{take-overwrite, drop-overwrite, length-overwrite}
 use Rattle.image.specs.Image.{imageNumber}
@@ -38,6 +39,11 @@ module _ (c : Call) (image out : List ℕ) where
   pub call-written : take (callAnswer c image out .length) (callOutput c image out) ≡ cond (eqb (callNumber c image out) 0) (c .bytes) []
   unfolding callAnswer callOutput
   call-written = split (eqb (callNumber c image out) 0) (λ e. rw e (take-overwrite (c .bytes) out)) (λ e. rw e)
+
+  -- the output of an accepted call
+  pub output-accepted : callAnswer c image out .number ≡ 0 → callOutput c image out ≡ overwrite (c .bytes) out
+  unfolding callOutput
+  output-accepted e = rw (sym answer-number ∙ e)
 
   -- it writes the bytes of its answer and nothing else
   pub writes-its-answer : WritesItsAnswer c (callAnswer c image out) out (callOutput c image out)

@@ -7,6 +7,7 @@ use native.Mathlib.Omega.{arith}
 use borrow.Author.Tests.{le-leb}
 use lib.Dec.{leb}
 use lib.ListN.{length}
+use Rattle.wire.specs.Output.{overwrite}
 use Rattle.machine.specs.State.{State}
 use Rattle.machine.specs.Valid.{Valid}
 use Rattle.machine.specs.Machine.{turns, view}
@@ -16,7 +17,7 @@ use Rattle.image.proofs.Refusal.{unless-holds}
 use Rattle.image.proofs.Image.{in-order, accepted-length, image-listed, image-forth, record-part, record-above, record-refused, record-inside}
 use Rattle.monitor.specs.Calls.{rewriteCall, turnsCall, viewCall}
 use Rattle.monitor.specs.Claims.{NumbersAreListed, CallsAreAcceptedExactly, OthersAreAccepted, CallsWriteTheirAnswer, RecordIsItsPart, ImageLengths, ReadThenWrite, WriteThenRead, ViewIsAccepted, ViewFor15, Secrecy, EqualViewsAreEqualBytes}
-use Rattle.monitor.proofs.Calls.{accepted-exactly, writes-its-answer, number-holds}
+use Rattle.monitor.proofs.Calls.{accepted-exactly, output-accepted, writes-its-answer, number-holds}
 use Rattle.monitor.proofs.Secrecy as Secrecy
 use Rattle.monitor.proofs.Secrecy.{read-valid, rewritten, written-accepted, equal-bytes, equal-views}
 
@@ -66,7 +67,13 @@ pub image-lengths : ImageLengths
 image-lengths image a = accepted-length image (in-order image (a .number))
 
 pub read-then-write : ReadThenWrite
-read-then-write image a = (read-valid image a, rewritten image a)
+read-then-write image a =
+    let c = rewriteCall image in
+    let same = rewritten image a in (
+      read-valid image a,
+      same,
+      λ out h. output-accepted c image out (accepted-exactly c image out .always refl (a .number) (rw same h)) ∙ ap (λ (b : List ℕ). overwrite b out) same,
+    )
 
 pub write-then-read : WriteThenRead
 write-then-read s ok = (written-accepted s ok, image-forth s ok)

@@ -1,6 +1,7 @@
 -- The checked examples, each row by computation.
 use mathlib.Core.Path.{refl}
 use Rattle.wire.specs.Lists as Lists
+use Rattle.wire.specs.Items as Items
 use Rattle.label.specs.Label as Label
 use Rattle.instruction.specs.Table as Table
 use Rattle.instruction.specs.Program as Program
@@ -8,18 +9,16 @@ use Rattle.machine.specs.Effect as Effect
 use Rattle.machine.specs.Turn as Turn
 use Rattle.machine.specs.View as View
 use Rattle.machine.specs.Valid as Valid
-use Rattle.image.specs.Record as Record
 use Rattle.image.specs.Image as Image
 use Rattle.monitor.specs.Calls as Calls
 use Rattle.monitor.specs.Examples.{Examples}
 
 pub examples : Examples
 unfolding Lists.each Label.flows Table.decode Program.instructionAt Effect.execute Effect.outcome Turn.turn
-    Turn.turns Turn.busy View.view Program.allLegal Lists.all Record.messagesOf Record.wordsOf
-    Record.mailboxBytes Record.wordsBytes Image.programLength Image.slotsPart Image.versionNumber
+    Turn.turns Turn.busy View.view Program.allLegal Lists.all Items.decodeItems Items.encodeItems Image.programLength Image.slotsPart Image.versionNumber
     Valid.isProgramLength Image.programNumber Image.turnSlotNumber Image.recordLength Image.skip Image.slotsOf
     Image.isRecordLength Image.slotNumber Image.slotsNumber Image.tailNumber Valid.sparesUnused
-    Image.spareNumber Image.imageNumber Image.stateOf Image.slotsBytes Image.imageBytes Calls.callNumber Calls.callAnswer
+    Image.spareNumber Image.imageNumber Image.stateOf Image.imageBytes Calls.callNumber Calls.callAnswer
 examples = record {
   p1 = (refl, refl);
   p2 = (refl, refl);

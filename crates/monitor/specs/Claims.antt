@@ -7,12 +7,13 @@ use mathlib.Core.List.{List, [], _∷_}
 use lib.Dec.{eqb}
 use lib.ListN.{length, take, drop}
 use Rattle.wire.specs.Lists.{Bytes}
+use Rattle.wire.specs.Output.{overwrite}
 use Rattle.machine.specs.State.{State, slotAt}
 use Rattle.machine.specs.Valid.{Valid}
 use Rattle.image.specs.Record.{recordBytes}
 use Rattle.image.specs.Image.{imageNumber, stateOf, imageBytes, recordStart}
 use Rattle.monitor.specs.declared.Answer.{Answer}
-use Rattle.monitor.specs.Calls.{recordAnswer, Call, callAnswer, callOutput, rewriteCall, rewriteAnswer, turnsAnswer, turnsOutput, viewBytes, viewAnswer, viewOutput}
+use Rattle.monitor.specs.Calls.{recordAnswer, Call, callAnswer, callOutput, rewriteAnswer, rewriteOutput, turnsAnswer, turnsOutput, viewBytes, viewAnswer, viewOutput}
 
 -- an accepted image: bytes whose number is 0
 pub record Accepted (image : List ℕ) : Type 0 where
@@ -77,7 +78,11 @@ ImageLengths = (image : List ℕ) → Accepted image → (40 ≤ length image) �
 
 -- demand 2: "Reading an accepted image and writing it again yields the same bytes,"
 abbrev pub ReadThenWrite : Type 0
-ReadThenWrite = (image : List ℕ) → Accepted image → Valid (stateOf image) × (rewriteCall image .bytes ≡ image)
+ReadThenWrite =
+    (image : List ℕ) → Accepted image
+    → Valid (stateOf image)
+    × (imageBytes (stateOf image) ≡ image)
+    × ((out : List ℕ) → length image ≤ length out → rewriteOutput image out ≡ overwrite image out)
 
 -- demand 2: "and writing out tasks that keep the image rules and reading them yields the same tasks."
 abbrev pub WriteThenRead : Type 0

@@ -112,6 +112,16 @@ bytes-nil i = omega arith
 -- ---- every element
 
 module _ {A : Type 0} (P : A → Type 0) where
+  -- of each element by its index, and the other way round
+  pub every-at : (d : A) → P d → (xs : List A) → Every P xs → (i : ℕ) → P (getD xs i d)
+  every-at d p [] h i = p
+  every-at d p (x ∷ xs) h zero = h .0
+  every-at d p (x ∷ xs) h (suc i) = every-at d p xs (h .1) i
+
+  pub every-of : (d : A) (xs : List A) → ((i : ℕ) → P (getD xs i d)) → Every P xs
+  every-of d [] h = tt
+  every-of d (x ∷ xs) h = (h 0, every-of d xs (λ i. h (suc i)))
+
   pub every-append : (xs ys : List A) → Every P xs → Every P ys → Every P (xs ++ ys)
   every-append [] ys h g = g
   every-append (x ∷ xs) ys h g = (h .0, every-append xs ys (h .1) g)
