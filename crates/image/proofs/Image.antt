@@ -237,11 +237,18 @@ image-listed b =
 
 -- ---- the part that holds a record
 
+-- where it stands: behind its length
+record-at-start : (b : List ℕ) (s : ℕ) → drop (recordStart b s) b ≡ drop 2 (skip s (slotsPart b))
+unfolding recordStart slotsPart
+record-at-start b s =
+    let part = drop (slotsAt b) b in
+    sym (drop-drop 2 (slotsAt b + span s part) b) ∙ ap (drop 2) (sym (drop-drop (span s part) (slotsAt b) b) ∙ sym (skip-drop s part))
+
 -- it is what the slot's task is written as
 pub record-part : (b : List ℕ) (s : ℕ) → Bytes b → imageNumber b ≡ 0 → s ≤ 15 → recordPart b s ≡ recordBytes (slotAt (stateOf b .slots) s)
 unfolding recordPart stateOf slotsPart
 record-part b s h e l =
-    rw (le-leb s 15 l, e, slot-at 16 s (slotsPart b) (omega arith))
+    rw (le-leb s 15 l, e, record-at-start b s, slot-at 16 s (slotsPart b) (omega arith))
     (sym (record-at 16 s 0 (count (programOf b)) (slotsPart b) (bytes-drop (slotsAt b) b h) (in-order b e .slots) (omega arith)))
 
 -- a slot above 15 has none, nor has a refused image
@@ -255,11 +262,8 @@ record-refused b s h = rw (ne-eqb (imageNumber b) 0 h, and-false)
 
 -- and it stands in the image at its start
 pub record-inside : (b : List ℕ) (s : ℕ) → recordPart b s ≡ take (length (recordPart b s)) (drop (recordStart b s) b)
-unfolding recordPart recordStart slotsPart
+unfolding recordPart
 record-inside b s =
-    let part = drop (slotsAt b) b in
-    let at : drop 2 (skip s part) ≡ drop (slotsAt b + span s part + 2) b
-    = ap (drop 2) (skip-drop s part ∙ drop-drop (span s part) (slotsAt b) b) ∙ drop-drop 2 (slotsAt b + span s part) b in
     split (leb s 15 && eqb (imageNumber b) 0)
-    (λ e. rw (e, ← at) (take-length-take (recordLength (skip s part)) (drop 2 (skip s part))))
+    (λ e. rw e (take-length-take (recordLength (skip s (slotsPart b))) (drop (recordStart b s) b)))
     (λ e. rw e)

@@ -6,7 +6,7 @@ use native.Mathlib.Nat.{not-suc-le-zero, le-of-suc-le-suc}
 use native.Mathlib.Omega.{arith}
 use lib.ListN.{length, take, drop, length-append, length-drop, take-append-drop}
 use lib.Seq.{take-add, take-all, drop-at}
-use Rattle.wire.specs.Lists.{Bytes, Every, each}
+use Rattle.wire.specs.Lists.{Bytes, Every}
 use Rattle.wire.specs.Numbers.{decodeNumber, encodeNumber}
 use Rattle.wire.proofs.Lists.{bytes-drop, bytes-append, bytes-cons, bytes-nil}
 use Rattle.wire.specs.Items.{decodeItems, encodeItems}

@@ -6,7 +6,8 @@ use lib.Dec.{leb, eqb}
 use lib.ListN.{length, getD, take, drop}
 use Rattle.wire.specs.Numbers.{decodeNumber, encodeNumber}
 use Rattle.wire.specs.Items.{encodeItems}
-use Rattle.instruction.specs.Program.{count, allLegal}
+use Rattle.instruction.specs.declared.Decoded.the-variants.{Illegal}
+use Rattle.instruction.specs.Program.{count, decodedNumber, allLegal}
 use Rattle.machine.specs.State.{Slot, State}
 use Rattle.machine.specs.Valid.{isProgramLength, isTurnSlot, sparesUnused}
 use Rattle.image.specs.Refusal.{_then_, unless, short}
@@ -47,7 +48,7 @@ programNumber b =
     short programAt b
     then unless (isProgramLength (programLength b)) 5
     then short (turnSlotAt b) b
-    then unless (allLegal (programOf b)) 6
+    then unless (allLegal (programOf b)) (decodedNumber Illegal)
 
 -- 7 turn slot
 unfoldable pub turnSlotNumber : List ℕ → ℕ
@@ -126,7 +127,7 @@ recordStart b s = slotsAt b + span s (slotsPart b) + 2
 
 -- the record of a slot: no bytes for an unused slot, a slot number above 15 or a refused image
 unfoldable pub recordPart : List ℕ → ℕ → List ℕ
-recordPart b s = cond (leb s 15 && eqb (imageNumber b) 0) (recordOf (skip s (slotsPart b))) []
+recordPart b s = cond (leb s 15 && eqb (imageNumber b) 0) (take (recordLength (skip s (slotsPart b))) (drop (recordStart b s) b)) []
 
 -- ---- a state to bytes
 

@@ -6,5 +6,6 @@ pub mod Spare
 pub mod View
 pub mod Valid
 pub mod Turn
+pub mod Kept
 pub mod Machine
 pub mod Traps

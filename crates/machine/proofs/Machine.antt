@@ -1,4 +1,4 @@
--- The machine's laws where labels are masks: what the crates above cite.
+-- The machine's laws where labels are masks.
 use Prim.Native.Nat.{ℕ, _+_}
 use mathlib.Core.Path.{_≡_}
 use mathlib.Core.Bool.{true}

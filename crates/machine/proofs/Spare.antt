@@ -158,5 +158,9 @@ module _ (ss : List Slot) (ok : Spares ss) (i : ℕ) (t : Task) (at : slotAt ss 
     spares-perform t′ (deliver j m) h = spares-deliver (set ss i (used t′)) j m (spares-own t′ (h .0))
     spares-perform t′ (spawn j c) h = spares-spawn ss ok i j t t′ c at used-low (h .0) (h .1)
 
+    -- a child's slot was unused
+    pub spawn-unused : (t′ : Task) (j : ℕ) (c : Task) → Allowed flows i t t′ (spawn j c) → slotAt ss j ≡ unused
+    spawn-unused t′ j c h = ok .free i j (omega arith) (rw at (omega arith))
+
     pub spares-applied : (o : Outcome) → Contained flows i t o → Spares (applied i o ss)
     spares-applied o h = spares-perform (o .task) (o .action) (h .allowed)

@@ -1,22 +1,22 @@
 -- The law that carries secrecy: the view of a turn is the view of what the view itself becomes, for one turn and for n.
 use Prim.Native.Nat.{ℕ, zero, suc, _+_}
 use mathlib.Core.Path.{_≡_, refl, sym, _∙_}
-use mathlib.Core.Bool.{Bool, true, false, _&&_}
+use mathlib.Core.Bool.{Bool, true, false}
 use mathlib.Core.List.{List, map}
 use native.Mathlib.Nat.{add-zero, add-suc}
 use native.Mathlib.Omega.{arith}
 use lib.Dec.{eqb}
 use lib.ListN.{set, List·getD-map}
 use lib.Seq.{map-set-same, getD-set-other}
-use Rattle.wire.proofs.Lists.{split, getD-set-at}
+use Rattle.wire.proofs.Lists.{split}
 use Rattle.label.proofs.Order.{Order, DownClosed}
-use Rattle.machine.specs.State.{Message, Task, Slot, unused, used, State, slotAt, isLive, isUnused}
+use Rattle.machine.specs.State.{Task, Slot, unused, used, State, slotAt}
 use Rattle.machine.specs.Effect.{Action, noAction, deliver, spawn, Outcome, outcome}
-use Rattle.machine.specs.Turn.{hasRoom, enqueue, perform, applied, step, turn, turns}
+use Rattle.machine.specs.Turn.{enqueue, perform, applied, step, turn, turns}
 use Rattle.machine.specs.View.{viewSlot, view}
 use Rattle.machine.specs.Valid.{Valid}
 use Rattle.machine.proofs.Effect.{Allowed, Contained, outcome-view, outcome-contained}
-use Rattle.machine.proofs.Spare.{Spares}
+use Rattle.machine.proofs.Spare.{Spares, spawn-unused}
 use Rattle.machine.proofs.View.{slots-twice, view-twice, slot-hidden, enqueue-hidden, applied-view}
 use Rattle.machine.proofs.Valid.{valid-spares, view-valid, turns-valid}
 
@@ -35,7 +35,7 @@ module _ (flows : ℕ → ℕ → Bool) (sees : ℕ → Bool) (down : DownClosed
       map-set-same (viewSlot sees) rs j (enqueue m (slotAt rs j)) unused (enqueue-hidden sees m (slotAt rs j) (above (m .label) (h .1)))
   perform-hidden t′ (spawn j c) h =
       let free : slotAt (set ss s (used t′)) j ≡ unused
-      = getD-set-other ss s j (used t′) unused (omega arith) ∙ ok .free s j (omega arith) (rw at (omega arith)) in
+      = getD-set-other ss s j (used t′) unused (omega arith) ∙ spawn-unused ss ok s t at flows t′ j c h in
       map-set-same (viewSlot sees) (set ss s (used t′)) j (used c) unused (rw free (slot-hidden sees c (above (c .label) (h .2))))
 
   -- whatever it does, the view stays
@@ -92,35 +92,3 @@ module _ (flows : ℕ → ℕ → Bool) (join : ℕ → ℕ → ℕ) where
   unfolding turns
   turns-add m zero s = rw add-zero
   turns-add m (suc n) s = rw (add-suc, turns-add m n s)
-
--- ---- slots are never handed back: one that is unused after turns was unused before
-
-set-unused : (ss : List Slot) (i : ℕ) (y : Slot) → (isUnused y ≡ true → isUnused (slotAt ss i) ≡ true)
-    → (k : ℕ) → isUnused (slotAt (set ss i y) k) ≡ true → isUnused (slotAt ss k) ≡ true
-set-unused ss i y h k = getD-set-at (λ (x : Slot). isUnused x ≡ true → isUnused (slotAt ss k) ≡ true) ss i k y unused (λ e. rw e h) (λ z. z)
-
-enqueue-unused : (m : Message) (x : Slot) → isUnused (enqueue m x) ≡ true → isUnused x ≡ true
-enqueue-unused m unused z = refl
-enqueue-unused m (used t) z = split (isLive t && hasRoom (m .label) (t .mailbox)) (λ e. rw e at z) (λ e. rw e at z)
-
-perform-unused : (a : Action) (ss : List Slot) (k : ℕ) → isUnused (slotAt (perform a ss) k) ≡ true → isUnused (slotAt ss k) ≡ true
-perform-unused noAction ss k z = z
-perform-unused (deliver j m) ss k z = set-unused ss j (enqueue m (slotAt ss j)) (enqueue-unused m (slotAt ss j)) k z
-perform-unused (spawn j c) ss k z = set-unused ss j (used c) (λ e. cc) k z
-
-module _ (flows : ℕ → ℕ → Bool) (join : ℕ → ℕ → ℕ) where
-  step-unused : (program : List ℕ) (s : ℕ) (ss : List Slot) (x : Slot) (k : ℕ)
-      → isUnused (slotAt (step flows join program s ss x) k) ≡ true → isUnused (slotAt ss k) ≡ true
-  step-unused program s ss unused k z = z
-  step-unused program s ss (used t) k z =
-      let o = outcome flows join program s t in
-      split (isLive t)
-      (λ e. set-unused ss s (used (o .task)) (λ f. cc) k (perform-unused (o .action) (set ss s (used (o .task))) k (rw e at z)))
-      (λ e. rw e at z)
-
-  pub turns-unused : (n : ℕ) (state : State) (k : ℕ) → isUnused (slotAt (turns flows join n state .slots) k) ≡ true → isUnused (slotAt (state .slots) k) ≡ true
-  unfolding turns turn
-  turns-unused zero state k z = z
-  turns-unused (suc n) state k z =
-      let before = turns flows join n state in
-      turns-unused n state k (step-unused (before .program) (before .turnSlot) (before .slots) (slotAt (before .slots) (before .turnSlot)) k z)

@@ -10,6 +10,7 @@ use lib.ListN.{length, take}
 use Rattle.wire.specs.Output.{overwrite}
 use Rattle.wire.proofs.Lists.{split}
 use Rattle.wire.proofs.Output.{take-overwrite, drop-overwrite, length-overwrite}
+use Rattle.image.specs.Refusal.{_then_, unless}
 use Rattle.image.specs.Image.{imageNumber}
 use Rattle.image.proofs.Refusal.{then-left, then-right, then-holds, unless-holds, unless-none}
 use Rattle.monitor.specs.Calls.{Call, callNumber, callAnswer, callOutput}
@@ -21,14 +22,18 @@ module _ (c : Call) (image out : List ℕ) where
   unfolding callAnswer
   answer-number = split (eqb (callNumber c image out) 0) (λ e. rw e (sym (eqb-true (callNumber c image out) 0 e))) (λ e. rw e)
 
-  none-then : callNumber c image out ≡ 0 → (c .argument ≡ 0) × (imageNumber image ≡ 0) × (length (c .bytes) ≤ length out)
+  pub first-met : callAnswer c image out .number ≡ (c .argumentNumber then imageNumber image then unless (leb (length (c .bytes)) (length out)) 13)
+  unfolding callNumber
+  first-met = answer-number
+
+  none-then : callNumber c image out ≡ 0 → (c .argumentNumber ≡ 0) × (imageNumber image ≡ 0) × (length (c .bytes) ≤ length out)
   unfolding callNumber
   none-then e =
-      let i = then-right (c .argument) _ e in
+      let i = then-right (c .argumentNumber) _ e in
       let o = then-right (imageNumber image) _ i in
-      (then-left (c .argument) _ e, then-left (imageNumber image) _ i, leb-true _ _ (unless-none (leb (length (c .bytes)) (length out)) 12 o))
+      (then-left (c .argumentNumber) _ e, then-left (imageNumber image) _ i, leb-true _ _ (unless-none (leb (length (c .bytes)) (length out)) 12 o))
 
-  then-none : c .argument ≡ 0 → imageNumber image ≡ 0 → length (c .bytes) ≤ length out → callNumber c image out ≡ 0
+  then-none : c .argumentNumber ≡ 0 → imageNumber image ≡ 0 → length (c .bytes) ≤ length out → callNumber c image out ≡ 0
   unfolding callNumber
   then-none a i o = rw (a, i, le-leb (length (c .bytes)) (length out) o)
 
@@ -69,8 +74,8 @@ module _ (c : Call) (image out : List ℕ) where
       })
 
   -- what holds of the argument's number, the image's, 0 and 13 holds of the number told
-  pub number-holds : (P : ℕ → Type 0) → P (c .argument) → P (imageNumber image) → P 0 → P 13 → P (callAnswer c image out .number)
+  pub number-holds : (P : ℕ → Type 0) → P (c .argumentNumber) → P (imageNumber image) → P 0 → P 13 → P (callAnswer c image out .number)
   unfolding callNumber
   number-holds P a i z o =
       rw answer-number
-      (then-holds P (c .argument) _ a (then-holds P (imageNumber image) _ i (unless-holds P (leb (length (c .bytes)) (length out)) 13 z o)))
+      (then-holds P (c .argumentNumber) _ a (then-holds P (imageNumber image) _ i (unless-holds P (leb (length (c .bytes)) (length out)) 13 z o)))

@@ -4,7 +4,7 @@ use mathlib.Core.Logic.{_≢_}
 use mathlib.Core.Path.{refl, ap, _∙_}
 use mathlib.Core.List.{List}
 use native.Mathlib.Omega.{arith}
-use borrow.Author.Tests.{le-leb}
+use borrow.Author.Tests.{le-leb, lt-leb}
 use lib.Dec.{leb}
 use lib.ListN.{length}
 use Rattle.wire.specs.Output.{overwrite}
@@ -16,8 +16,8 @@ use Rattle.image.specs.Image.{stateOf, imageBytes}
 use Rattle.image.proofs.Refusal.{unless-holds}
 use Rattle.image.proofs.Image.{in-order, accepted-length, image-listed, image-forth, record-part, record-above, record-refused, record-inside}
 use Rattle.monitor.specs.Calls.{rewriteCall, turnsCall, viewCall}
-use Rattle.monitor.specs.Claims.{NumbersAreListed, CallsAreAcceptedExactly, OthersAreAccepted, CallsWriteTheirAnswer, RecordIsItsPart, ImageLengths, ReadThenWrite, WriteThenRead, ViewIsAccepted, ViewFor15, Secrecy, EqualViewsAreEqualBytes}
-use Rattle.monitor.proofs.Calls.{accepted-exactly, output-accepted, writes-its-answer, number-holds}
+use Rattle.monitor.specs.Claims.{NumbersAreListed, FirstMetIsGiven, LimitsAreRefused, CallsAreAcceptedExactly, OthersAreAccepted, CallsWriteTheirAnswer, RecordIsItsPart, ImageLengths, ReadThenWrite, WriteThenRead, ViewIsAccepted, ViewFor15, Secrecy, EqualViewsAreEqualBytes}
+use Rattle.monitor.proofs.Calls.{first-met, accepted-exactly, output-accepted, writes-its-answer, number-holds}
 use Rattle.monitor.proofs.Secrecy as Secrecy
 use Rattle.monitor.proofs.Secrecy.{read-valid, rewritten, written-accepted, equal-bytes, equal-views}
 
@@ -34,6 +34,15 @@ numbers-are-listed image out =
           (unless-holds (λ x. (x ≤ 13) × (x ≢ 2)) (leb v 15) 1 (omega arith, λ e. omega arith) (omega arith, λ e. omega arith))
           (omega (arith, i .most), i .not-2) (omega arith, λ e. omega arith) (omega arith, λ e. omega arith),
     )
+
+pub first-met-is-given : FirstMetIsGiven
+first-met-is-given = first-met
+
+pub limits-are-refused : LimitsAreRefused
+limits-are-refused image out = (
+  λ v l. first-met (viewCall v image) image out ∙ rw (lt-leb v 15 l),
+  λ n l. first-met (turnsCall n image) image out ∙ rw (lt-leb n 1000000 l),
+)
 
 pub calls-are-accepted-exactly : CallsAreAcceptedExactly
 calls-are-accepted-exactly = accepted-exactly

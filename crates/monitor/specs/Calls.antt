@@ -18,13 +18,13 @@ recordAnswer image slot = recordPart image slot
 -- ---- a call that writes: the number of its argument, 0 where it is within its limit; the bytes to write; the busy count
 
 pub record Call : Type 0 where
-  pub argument : ℕ
+  pub argumentNumber : ℕ
   pub bytes : List ℕ
   pub busy : ℕ
 
 -- the argument first, then the image, and 13 last: output shorter than the answer
 unfoldable pub callNumber : Call → List ℕ → List ℕ → ℕ
-callNumber c image out = c .argument then imageNumber image then unless (leb (length (c .bytes)) (length out)) 13
+callNumber c image out = c .argumentNumber then imageNumber image then unless (leb (length (c .bytes)) (length out)) 13
 
 -- a refused call tells its number, length 0 and busy count 0; an accepted one tells number 0
 unfoldable pub callAnswer : Call → List ℕ → List ℕ → Answer
@@ -40,7 +40,7 @@ callOutput c image out = cond (eqb (callNumber c image out) 0) (overwrite (c .by
 -- ---- rewrite: the image again as it was read
 
 abbrev pub rewriteCall : List ℕ → Call
-rewriteCall image = record { argument = 0; bytes = imageBytes (stateOf image); busy = 0 }
+rewriteCall image = record { argumentNumber = 0; bytes = imageBytes (stateOf image); busy = 0 }
 
 abbrev pub rewriteAnswer : List ℕ → List ℕ → Answer
 rewriteAnswer image out = callAnswer (rewriteCall image) image out
@@ -52,7 +52,7 @@ rewriteOutput image out = callOutput (rewriteCall image) image out
 
 abbrev pub turnsCall : ℕ → List ℕ → Call
 turnsCall n image =
-    record { argument = unless (leb n 1000000) 2; bytes = imageBytes (turns n (stateOf image)); busy = busy n (stateOf image) }
+    record { argumentNumber = unless (leb n 1000000) 2; bytes = imageBytes (turns n (stateOf image)); busy = busy n (stateOf image) }
 
 abbrev pub turnsAnswer : ℕ → List ℕ → List ℕ → Answer
 turnsAnswer n image out = callAnswer (turnsCall n image) image out
@@ -66,7 +66,7 @@ abbrev pub viewBytes : ℕ → List ℕ → List ℕ
 viewBytes v image = imageBytes (view v (stateOf image))
 
 abbrev pub viewCall : ℕ → List ℕ → Call
-viewCall v image = record { argument = unless (leb v 15) 1; bytes = viewBytes v image; busy = 0 }
+viewCall v image = record { argumentNumber = unless (leb v 15) 1; bytes = viewBytes v image; busy = 0 }
 
 abbrev pub viewAnswer : ℕ → List ℕ → List ℕ → Answer
 viewAnswer v image out = callAnswer (viewCall v image) image out

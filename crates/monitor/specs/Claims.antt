@@ -1,15 +1,16 @@
 -- The claims: each a named type under the sentence that it answers; proofs/Claims.antt inhabits them.
-use Prim.Native.Nat.{ℕ, _+_, _≤_}
+use Prim.Native.Nat.{ℕ, _+_, _<_, _≤_}
 use mathlib.Core.Logic.{_≢_}
 use mathlib.Core.Path.{_≡_}
 use mathlib.Core.Bool.{Bool, cond}
 use mathlib.Core.List.{List, [], _∷_}
-use lib.Dec.{eqb}
+use lib.Dec.{leb, eqb}
 use lib.ListN.{length, take, drop}
 use Rattle.wire.specs.Lists.{Bytes}
 use Rattle.wire.specs.Output.{overwrite}
 use Rattle.machine.specs.State.{State, slotAt}
 use Rattle.machine.specs.Valid.{Valid}
+use Rattle.image.specs.Refusal.{_then_, unless}
 use Rattle.image.specs.Record.{recordBytes}
 use Rattle.image.specs.Image.{imageNumber, stateOf, imageBytes, recordStart}
 use Rattle.monitor.specs.declared.Answer.{Answer}
@@ -30,11 +31,24 @@ NumbersAreListed =
     × ((n : ℕ) → (turnsAnswer n image out .number ≤ 13) × (turnsAnswer n image out .number ≢ 1))
     × ((v : ℕ) → (viewAnswer v image out .number ≤ 13) × (viewAnswer v image out .number ≢ 2))
 
+-- "Order: 1 or 2 first [..] Then the image [..] Then 11, 12, 13. The first met is given"
+abbrev pub FirstMetIsGiven : Type 0
+FirstMetIsGiven =
+    (c : Call) (image out : List ℕ)
+    → callAnswer c image out .number ≡ (c .argumentNumber then imageNumber image then unless (leb (length (c .bytes)) (length out)) 13)
+
+-- 1 "the label asked for is above 15", 2 "more than 1,000,000 turns"
+abbrev pub LimitsAreRefused : Type 0
+LimitsAreRefused =
+    (image out : List ℕ)
+    → ((v : ℕ) → 15 < v → viewAnswer v image out .number ≡ 1)
+    × ((n : ℕ) → 1000000 < n → turnsAnswer n image out .number ≡ 2)
+
 -- "none of them in any other event": a call is accepted exactly when its argument and the image have no number and the
 -- output is long enough
 pub record AcceptedExactly (c : Call) (image out : List ℕ) : Type 0 where
-  pub only : callAnswer c image out .number ≡ 0 → (c .argument ≡ 0) × (imageNumber image ≡ 0) × (length (c .bytes) ≤ length out)
-  pub always : c .argument ≡ 0 → imageNumber image ≡ 0 → length (c .bytes) ≤ length out → callAnswer c image out .number ≡ 0
+  pub only : callAnswer c image out .number ≡ 0 → (c .argumentNumber ≡ 0) × (imageNumber image ≡ 0) × (length (c .bytes) ≤ length out)
+  pub always : c .argumentNumber ≡ 0 → imageNumber image ≡ 0 → length (c .bytes) ≤ length out → callAnswer c image out .number ≡ 0
 
 abbrev pub CallsAreAcceptedExactly : Type 0
 CallsAreAcceptedExactly = (c : Call) (image out : List ℕ) → AcceptedExactly c image out
