@@ -10,9 +10,9 @@ use borrow.Author.Tests.{leb-true, le-leb, eqb-true, ne-eqb}
 use lib.Dec.{leb, eqb}
 use lib.ListN.{length, getD, take, drop, length-append, length-drop, take-append-drop}
 use lib.Seq.{take-add, length-take-le, take-append-seam, drop-append-seam, getD-append-seam, getD-drop, drop-drop, drop-cons}
-use Rattle.wire.specs.Lists.{Bytes}
+use Rattle.wire.specs.Lists.{Bytes, IsByte}
 use Rattle.wire.specs.Numbers.{decodeNumber, encodeNumber}
-use Rattle.wire.proofs.Lists.{split, length-nil, take-length-take, bytes-take, bytes-drop, bytes-append, bytes-cons}
+use Rattle.wire.proofs.Lists.{split, length-nil, take-length-take, every-drop, every-take, every-append}
 use Rattle.wire.proofs.Numbers.{encode-decode, decode-encode, encode-bytes}
 use Rattle.instruction.specs.Program.{count, allLegal}
 use Rattle.machine.specs.State.{State, slotAt}
@@ -83,11 +83,11 @@ module _ (b : List ℕ) (h : Bytes b) (a : InOrder b) where
       let s = drop (slotsAt b) b in
       record {
         size = rw (program-size b a) (a .size);
-        bytes = bytes-take (programLength b) (drop 3 b) (bytes-drop 3 b h);
+        bytes = every-take IsByte (programLength b) (drop 3 b) (every-drop IsByte 3 b h);
         legal = a .legal;
         turnSlot = a .turnSlot;
         slotCount = length-slotsOf 16 s;
-        tasks = λ i. rw zero-add at (slots-valid 16 0 (count (programOf b)) s (bytes-drop (slotsAt b) b h) (a .slots) i);
+        tasks = λ i. rw zero-add at (slots-valid 16 0 (count (programOf b)) s (every-drop IsByte (slotsAt b) b h) (a .slots) i);
         spares = a .spares;
       }
 
@@ -99,14 +99,14 @@ module _ (b : List ℕ) (h : Bytes b) (a : InOrder b) where
     where
       go : (b : List ℕ) → Bytes b → getD b 0 0 ≡ 1 → 3 ≤ length b → 1 ∷ encodeNumber 2 (decodeNumber 2 (drop 1 b)) ≡ take 3 b
       go [] h v l = absurd (not-suc-le-zero l)
-      go (x ∷ b) h v l = ap₂ (λ (y : ℕ) (t : List ℕ). y ∷ t) (sym v) (encode-decode 2 b (λ i. h (suc i)) (le-of-suc-le-suc l))
+      go (x ∷ b) h v l = ap₂ (λ (y : ℕ) (t : List ℕ). y ∷ t) (sym v) (encode-decode 2 b (h .1) (le-of-suc-le-suc l))
 
   slots-written : slotsBytes (slotsOf 16 (slotsPart b)) ≡ slotsPart b
   unfolding slotsPart
   slots-written =
       let s = drop (slotsAt b) b in
       let w = slotsBytes (slotsOf 16 s) in
-      sym (append-nil w) ∙ ap (λ (t : List ℕ). w ++ t) (sym (a .tail)) ∙ slots-back 16 0 (count (programOf b)) s (bytes-drop (slotsAt b) b h) (a .slots)
+      sym (append-nil w) ∙ ap (λ (t : List ℕ). w ++ t) (sym (a .tail)) ∙ slots-back 16 0 (count (programOf b)) s (every-drop IsByte (slotsAt b) b h) (a .slots)
 
   tail-back : turnSlotOf b ∷ slotsPart b ≡ drop (turnSlotAt b) b
   unfolding slotsPart
@@ -164,9 +164,9 @@ module _ (s : State) (ok : Valid s) where
   image-bytes =
       let head = encodeNumber 2 (length (s .program)) in
       let tail = s .turnSlot ∷ slotsBytes (s .slots) in
-      bytes-cons 1 (head ++ s .program ++ tail) (omega arith)
-      (bytes-append (head ++ s .program) tail (bytes-append head (s .program) (encode-bytes 2 (length (s .program))) (ok .bytes))
-      (bytes-cons (s .turnSlot) (slotsBytes (s .slots)) (omega (arith, leb-true (s .turnSlot) 15 (ok .turnSlot))) (slots-bytes (count (s .program)) few 0 (s .slots) tasks-from-0)))
+      let slots = slots-bytes (count (s .program)) few 0 (s .slots) tasks-from-0 in
+      let front = every-append IsByte head (s .program) (encode-bytes 2 (length (s .program))) (ok .bytes) in
+      (omega arith, every-append IsByte (head ++ s .program) tail front (omega (arith, leb-true (s .turnSlot) 15 (ok .turnSlot)), slots))
 
   slots-read : slotsOf 16 (slotsBytes (s .slots)) ≡ s .slots
   slots-read = ap (λ (k : ℕ). slotsOf k (slotsBytes (s .slots))) (sym (ok .slotCount)) ∙ slots-forth (count (s .program)) few 0 (s .slots) tasks-from-0
@@ -249,7 +249,7 @@ pub record-part : (b : List ℕ) (s : ℕ) → Bytes b → imageNumber b ≡ 0 �
 unfolding recordPart stateOf slotsPart
 record-part b s h e l =
     rw (le-leb s 15 l, e, record-at-start b s, slot-at 16 s (slotsPart b) (omega arith))
-    (sym (record-at 16 s 0 (count (programOf b)) (slotsPart b) (bytes-drop (slotsAt b) b h) (in-order b e .slots) (omega arith)))
+    (sym (record-at 16 s 0 (count (programOf b)) (slotsPart b) (every-drop IsByte (slotsAt b) b h) (in-order b e .slots) (omega arith)))
 
 -- a slot above 15 has none, nor has a refused image
 pub record-above : (b : List ℕ) (s : ℕ) → (s ≤ 15 → ⊥) → recordPart b s ≡ []

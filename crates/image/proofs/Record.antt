@@ -1,14 +1,14 @@
 -- Records to tasks and back, tasks to records and back, and what the numbers 9 and 10 leave: valid tasks.
-use Prim.Native.Nat.{ℕ, suc, _+_, _*_, _-_, _/_, _%_, _^_, _<_, _≤_}
+use Prim.Native.Nat.{ℕ, _+_, _*_, _-_, _/_, _%_, _^_, _<_, _≤_}
 use mathlib.Core.Path.{_≡_, refl, sym, ap, ap₂, _∙_}
 use mathlib.Core.List.{List, [], _∷_, _++_, append-nil}
 use native.Mathlib.Nat.{not-suc-le-zero, le-of-suc-le-suc}
 use native.Mathlib.Omega.{arith}
 use lib.ListN.{length, take, drop, length-append, length-drop, take-append-drop}
 use lib.Seq.{take-add, take-all, drop-at}
-use Rattle.wire.specs.Lists.{Bytes, Every}
+use Rattle.wire.specs.Lists.{Bytes, Every, IsByte}
 use Rattle.wire.specs.Numbers.{decodeNumber, encodeNumber}
-use Rattle.wire.proofs.Lists.{bytes-drop, bytes-append, bytes-cons, bytes-nil}
+use Rattle.wire.proofs.Lists.{every-drop, every-append}
 use Rattle.wire.specs.Items.{decodeItems, encodeItems}
 use Rattle.wire.proofs.Items.{length-decode, every-decode, items-back, items-forth, length-items, items-bytes}
 use Rattle.wire.proofs.Numbers.{length-encode, encode-decode, decode-encode, decode-lt, encode-bytes}
@@ -25,7 +25,7 @@ message-back : (b : List ℕ) → Bytes b → 6 ≤ length b → messageBytes (m
 message-back [] h l = absurd (not-suc-le-zero l)
 message-back (x ∷ []) h l = absurd (not-suc-le-zero (le-of-suc-le-suc l))
 message-back (x ∷ y ∷ b) h l =
-    ap (λ (t : List ℕ). x ∷ y ∷ t) (encode-decode 4 b (λ i. h (suc (suc i))) (le-of-suc-le-suc (le-of-suc-le-suc l)))
+    ap (λ (t : List ℕ). x ∷ y ∷ t) (encode-decode 4 b (h .1 .1) (le-of-suc-le-suc (le-of-suc-le-suc l)))
 
 mailbox-back : (b : List ℕ) → Bytes b → length b % 6 ≡ 0 → encodeItems messageBytes (decodeItems 6 messageOf (length b / 6) b) ≡ b
 mailbox-back b h e =
@@ -39,11 +39,11 @@ task-back [] h l e = absurd (not-suc-le-zero l)
 task-back (x ∷ []) h l e = absurd (not-suc-le-zero (le-of-suc-le-suc l))
 task-back (x ∷ y ∷ []) h l e = absurd (not-suc-le-zero (le-of-suc-le-suc (le-of-suc-le-suc l)))
 task-back (x ∷ y ∷ z ∷ r) h l e =
-    let g : Bytes r = λ i. h (suc (suc (suc i))) in
+    let g : Bytes r = h .1 .1 .1 in
     let l₂ : 32 ≤ length (drop 2 r) = simp length-drop (omega arith) in
     let m : length (drop 34 r) % 6 ≡ 0 = simp length-drop (omega arith) in
     ap (λ (t : List ℕ). x ∷ y ∷ z ∷ t)
-    (ap₂ (λ (p q : List ℕ). p ++ q) (ap₂ (λ (p q : List ℕ). p ++ q) (encode-decode 2 r g (omega arith)) (registers-back (drop 2 r) (bytes-drop 2 r g) l₂)) (mailbox-back (drop 34 r) (bytes-drop 34 r g) m)
+    (ap₂ (λ (p q : List ℕ). p ++ q) (ap₂ (λ (p q : List ℕ). p ++ q) (encode-decode 2 r g (omega arith)) (registers-back (drop 2 r) (every-drop IsByte 2 r g) l₂)) (mailbox-back (drop 34 r) (every-drop IsByte 34 r g) m)
     ∙ ap (λ (p : List ℕ). p ++ drop 34 r) (sym (take-add 2 32 r)) ∙ take-append-drop 34 r)
 
 -- ---- a task to bytes and back
@@ -86,12 +86,10 @@ module _ (n s : ℕ) (t : Task) (ok : ValidTask n s t) where
 -- ---- a valid task's record consists of bytes
 
 message-bytes : (m : Message) → MessageFacts m → Bytes (messageBytes m)
-message-bytes m f =
-    bytes-cons (m .label) (m .sender ∷ encodeNumber 4 (m .value)) (omega (arith, f .label))
-    (bytes-cons (m .sender) (encodeNumber 4 (m .value)) (omega (arith, f .sender)) (encode-bytes 4 (m .value)))
+message-bytes m f = (omega (arith, f .label), (omega (arith, f .sender), encode-bytes 4 (m .value)))
 
 pub record-bytes : (n s : ℕ) (x : Slot) → ValidSlot n s x → Bytes (recordBytes x)
-record-bytes n s unused ok = bytes-nil
+record-bytes n s unused ok = tt
 record-bytes n s (used t) ok =
     let f = task-facts n s t ok in
     let head = encodeNumber 2 (t .pc) in
@@ -99,9 +97,8 @@ record-bytes n s (used t) ok =
     let m = encodeItems messageBytes (t .mailbox) in
     let registers = items-bytes (encodeNumber 4) (λ (x : ℕ). x < 2 ^ 32) (λ x h. encode-bytes 4 x) (t .registers) (ok .words) in
     let mailbox = items-bytes messageBytes MessageFacts message-bytes (t .mailbox) (f .mailbox .each) in
-    let fields = bytes-append (head ++ w) m (bytes-append head w (encode-bytes 2 (t .pc)) registers) mailbox in
-    bytes-cons (t .kind) (t .label ∷ t .spare ∷ head ++ w ++ m) (omega (arith, f .kind-high))
-    (bytes-cons (t .label) (t .spare ∷ head ++ w ++ m) (omega (arith, f .label)) (bytes-cons (t .spare) (head ++ w ++ m) (omega (arith, f .spare)) fields))
+    let fields = every-append IsByte (head ++ w) m (every-append IsByte head w (encode-bytes 2 (t .pc)) registers) mailbox in
+    (omega (arith, f .kind-high), (omega (arith, f .label), (omega (arith, f .spare), fields)))
 
 -- ---- a record with no number holds a valid task
 
@@ -113,10 +110,10 @@ record-valid s n (x ∷ q) h e =
       fields = unless-none (fieldsInRange s n (taskOf r)) 8 (then-left _ _ e);
       mail = unless-none (mailInRange (taskOf r .mailbox)) 9 (then-right (unless (fieldsInRange s n (taskOf r)) 9) _ e);
       registers = length-decode 4 (decodeNumber 4) 8 (drop 5 r);
-      words = every-decode 4 (decodeNumber 4) (λ (x : ℕ). x < 2 ^ 32) (decode-lt 4) 8 (drop 5 r) (bytes-drop 5 r h);
+      words = every-decode 4 (decodeNumber 4) (λ (x : ℕ). x < 2 ^ 32) (decode-lt 4) 8 (drop 5 r) (every-drop IsByte 5 r h);
       values =
-          every-decode 6 messageOf (λ (m : Message). m .value < 2 ^ 32) (λ b g. decode-lt 4 (drop 2 b) (bytes-drop 2 b g))
-          (length (drop 37 r) / 6) (drop 37 r) (bytes-drop 37 r h);
+          every-decode 6 messageOf (λ (m : Message). m .value < 2 ^ 32) (λ b g. decode-lt 4 (drop 2 b) (every-drop IsByte 2 b g))
+          (length (drop 37 r) / 6) (drop 37 r) (every-drop IsByte 37 r h);
     }
 
 -- ---- and a valid task gives none

@@ -9,10 +9,10 @@ use borrow.Author.Tests.{leb-true, le-leb, eqb-true, eqb-false, ne-eqb}
 use lib.Dec.{leb, eqb}
 use lib.ListN.{length, take, drop, length-append, length-drop, take-append-drop}
 use lib.Seq.{take-add, length-take-le, take-append-seam, drop-append-seam, drop-drop}
-use Rattle.wire.specs.Lists.{Bytes}
+use Rattle.wire.specs.Lists.{Bytes, IsByte}
 use Rattle.wire.specs.Items.{encodeItems}
 use Rattle.wire.specs.Numbers.{encodeNumber}
-use Rattle.wire.proofs.Lists.{split, and-both, bytes-take, bytes-drop, bytes-append, bytes-nil}
+use Rattle.wire.proofs.Lists.{split, and-both, every-drop, every-take, every-append}
 use Rattle.wire.proofs.Numbers.{encode-decode, decode-encode, encode-bytes}
 use Rattle.machine.specs.State.{Slot, unused, used, slotAt}
 use Rattle.machine.specs.Valid.{fieldsInRange, mailInRange, ValidSlot}
@@ -88,7 +88,7 @@ record-back (x ∷ r) h e =
 
 module _ (s n : ℕ) (b : List ℕ) (h : Bytes b) (ok : SlotInOrder s n b) where
   recordOf-bytes : Bytes (recordOf b)
-  recordOf-bytes = bytes-take (recordLength b) (drop 2 b) (bytes-drop 2 b h)
+  recordOf-bytes = every-take IsByte (recordLength b) (drop 2 b) (every-drop IsByte 2 b h)
 
   recordOf-length : length (recordOf b) ≡ recordLength b
   recordOf-length = length-take-le (recordLength b) (drop 2 b) (rw length-drop (omega (arith, ok .long)))
@@ -105,7 +105,7 @@ slots-back zero s n b h e = refl
 slots-back (suc k) s n b h e =
     let ok = slot-in-order s n b (then-left _ _ e) in
     append-assoc (slotBytes (slotOf (recordOf b))) (slotsBytes (slotsOf k (behind b))) (skip k (behind b))
-    ∙ ap₂ (λ (x y : List ℕ). x ++ y) (slot-back s n b h ok) (slots-back k (s + 1) n (behind b) (bytes-drop (2 + recordLength b) b h) (then-right (slotNumber s n b) _ e))
+    ∙ ap₂ (λ (x y : List ℕ). x ++ y) (slot-back s n b h ok) (slots-back k (s + 1) n (behind b) (every-drop IsByte (2 + recordLength b) b h) (then-right (slotNumber s n b) _ e))
     ∙ take-append-drop (2 + recordLength b) b
 
 pub slots-valid : (k s n : ℕ) (b : List ℕ) → Bytes b → slotsNumber k s n b ≡ 0 → (i : ℕ) → ValidSlot n (s + i) (slotAt (slotsOf k b) i)
@@ -116,7 +116,7 @@ slots-valid (suc k) s n b h e zero =
     rw add-zero (record-valid s n (recordOf b) (recordOf-bytes s n b h ok) (ok .fields))
 slots-valid (suc k) s n b h e (suc i) =
     let q : s + suc i ≡ s + 1 + i = omega arith in
-    rw q (slots-valid k (s + 1) n (behind b) (bytes-drop (2 + recordLength b) b h) (then-right (slotNumber s n b) _ e) i)
+    rw q (slots-valid k (s + 1) n (behind b) (every-drop IsByte (2 + recordLength b) b h) (then-right (slotNumber s n b) _ e) i)
 
 pub length-slotsOf : (k : ℕ) (b : List ℕ) → length (slotsOf k b) ≡ k
 unfolding slotsOf
@@ -156,7 +156,7 @@ record-at (suc k) zero s n b h e l =
     let ok = slot-in-order s n b (then-left _ _ e) in
     record-back (recordOf b) (recordOf-bytes s n b h ok) (rw (recordOf-length s n b h ok) (ok .size))
 record-at (suc k) (suc i) s n b h e l =
-    record-at k i (s + 1) n (behind b) (bytes-drop (2 + recordLength b) b h) (then-right (slotNumber s n b) _ e) (omega arith)
+    record-at k i (s + 1) n (behind b) (every-drop IsByte (2 + recordLength b) b h) (then-right (slotNumber s n b) _ e) (omega arith)
 
 -- ---- numbers
 
@@ -234,8 +234,8 @@ module _ (n : ℕ) (few : n ≤ 256) where
 
   pub slots-bytes : (s : ℕ) (xs : List Slot) → ((i : ℕ) → ValidSlot n (s + i) (slotAt xs i)) → Bytes (slotsBytes xs)
   unfolding encodeItems
-  slots-bytes s [] ok = bytes-nil
+  slots-bytes s [] ok = tt
   slots-bytes s (x ∷ xs) ok =
       let r = recordBytes x in
-      bytes-append (slotBytes x) (slotsBytes xs) (bytes-append (encodeNumber 2 (length r)) r (encode-bytes 2 (length r)) (record-bytes n s x (first s x xs ok)))
+      every-append IsByte (slotBytes x) (slotsBytes xs) (every-append IsByte (encodeNumber 2 (length r)) r (encode-bytes 2 (length r)) (record-bytes n s x (first s x xs ok)))
       (slots-bytes (s + 1) xs (later s x xs ok))

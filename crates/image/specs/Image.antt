@@ -138,4 +138,4 @@ abbrev pub slotsBytes : List Slot → List ℕ
 slotsBytes = encodeItems slotBytes
 
 unfoldable pub imageBytes : State → List ℕ
-imageBytes s = 1 ∷ encodeNumber 2 (length (s .program)) ++ s .program ++ s .turnSlot ∷ slotsBytes (s .slots)
+imageBytes state = 1 ∷ encodeNumber 2 (length (state .program)) ++ state .program ++ state .turnSlot ∷ slotsBytes (state .slots)

@@ -2,22 +2,18 @@
 use Prim.Native.Nat.{ℕ, _+_, _*_, _≤_, _<_}
 use mathlib.Core.Path.{_≡_}
 use mathlib.Core.Bool.{true}
-use mathlib.Core.List.{List, [], _∷_}
+use mathlib.Core.List.{List}
 use native.Mathlib.Omega.{arith}
 use borrow.Author.Tests.{lt-ltb, le-ltb, ltb-true, ltb-false}
 use lib.Dec.{ltb}
 use lib.ListN.{getD}
 use Rattle.wire.specs.Lists.{Bytes}
-use Rattle.wire.proofs.Lists.{split, each-at, bytes-cons, bytes-nil}
+use Rattle.wire.proofs.Lists.{split, each-at, byte-at}
 use Rattle.instruction.specs.declared.Instruction.{Instruction}
 use Rattle.instruction.specs.declared.Decoded.the-variants.{Legal, Illegal}
 use Rattle.instruction.specs.Table.{decode, encode}
 use Rattle.instruction.specs.Program.{count, instructionAt, isLegal, allLegal}
 use Rattle.instruction.proofs.Table.{Sound, encode-decode, decode-sound}
-
-four-bytes : (a b c d : ℕ) → a < 256 → b < 256 → c < 256 → d < 256 → Bytes (a ∷ b ∷ c ∷ d ∷ [])
-four-bytes a b c d p q r s =
-    bytes-cons a (b ∷ c ∷ d ∷ []) p (bytes-cons b (c ∷ d ∷ []) q (bytes-cons c (d ∷ []) r (bytes-cons d [] s bytes-nil)))
 
 module _ (program : List ℕ) (pc : ℕ) where
   pub at-within : pc < count program
@@ -44,7 +40,7 @@ module _ (program : List ℕ) (pc : ℕ) where
   pub at-bytes : (i : Instruction) → Bytes program → instructionAt program pc ≡ Legal i → Bytes (encode i)
   at-bytes i h e =
       rw (encode-decode (count program) _ _ _ _ i (rw (at-within (at-below i e)) at e))
-      (four-bytes _ _ _ _ (h (4 * pc)) (h (4 * pc + 1)) (h (4 * pc + 2)) (h (4 * pc + 3)))
+      (byte-at program h (4 * pc), (byte-at program h (4 * pc + 1), (byte-at program h (4 * pc + 2), (byte-at program h (4 * pc + 3), tt))))
 
 -- a legal program has an instruction at each index below its end
 pub legal-at : (program : List ℕ) → allLegal program ≡ true → (pc : ℕ) → pc < count program → isLegal (instructionAt program pc) ≡ true

@@ -46,10 +46,10 @@ module _ (flows : ℕ → ℕ → Bool) where
       oldest-view : oldest flows (viewTask sees t) ≡ oldest flows t
       oldest-view = rw (keep-keep (receivable flows t) (λ m. sees (m .label)) receivable-seen)
 
-      taken-view : (a b : ℕ) (idle : Task) (o : Option Message)
-          → taken flows a b (viewTask sees idle) (viewTask sees t) o ≡ viewOutcome sees (taken flows a b idle t o)
-      taken-view a b idle none = refl
-      taken-view a b idle (some m) = rw (dropFirst-keep (receivable flows t) (λ m. sees (m .label)) receivable-seen)
+      taken-view : (a b : ℕ) (otherwise : Task) (o : Option Message)
+          → taken flows a b (viewTask sees otherwise) (viewTask sees t) o ≡ viewOutcome sees (taken flows a b otherwise t o)
+      taken-view a b otherwise none = refl
+      taken-view a b otherwise (some m) = rw (dropFirst-keep (receivable flows t) (λ m. sees (m .label)) receivable-seen)
 
       execute-view : (i : Instruction) (s : ℕ) → execute flows join i s (viewTask sees t) ≡ viewOutcome sees (execute flows join i s t)
       unfolding execute
@@ -82,9 +82,9 @@ module _ (flows : ℕ → ℕ → Bool) where
       withoutAction-contained : (t′ : Task) → t .label ≡ t′ .label → t .spare ≡ t′ .spare → Contained s t (withoutAction t′)
       withoutAction-contained t′ l k = record { rises = rw l (order .reflexive (t′ .label)); allowed = omega arith }
 
-      taken-contained : (a b : ℕ) (idle : Task) → Contained s t (withoutAction idle) → (o : Option Message) → Contained s t (taken flows a b idle t o)
-      taken-contained a b idle h none = h
-      taken-contained a b idle h (some m) = withoutAction-contained _ refl refl
+      taken-contained : (a b : ℕ) (otherwise : Task) → Contained s t (withoutAction otherwise) → (o : Option Message) → Contained s t (taken flows a b otherwise t o)
+      taken-contained a b otherwise h none = h
+      taken-contained a b otherwise h (some m) = withoutAction-contained _ refl refl
 
       execute-contained : (n : ℕ) (i : Instruction) → Sound n i → Contained s t (execute flows join i s t)
       unfolding execute

@@ -2,8 +2,7 @@
 use Prim.Native.Nat.{ℕ, _+_}
 use mathlib.Core.Path.{_≡_}
 use mathlib.Core.Bool.{true}
-use mathlib.Core.List.{List, [], _∷_}
-use Rattle.wire.specs.Lists.{Every}
+use Rattle.wire.proofs.Lists.{every-weaken}
 use Rattle.label.specs.Label.{flows, join}
 use Rattle.label.proofs.Order.{DownClosed, label-order, flows-15}
 use Rattle.machine.specs.State.{Message, Slot, unused, used, State, slotAt}
@@ -40,13 +39,9 @@ turns-same v = Turn.turns-same flows join label-order (λ l. flows l v) (observe
 
 -- ---- label 15
 
-mailbox-seen : (ms : List Message) → Every MessageFacts ms → Every (λ m. flows (m .label) 15 ≡ true) ms
-mailbox-seen [] h = tt
-mailbox-seen (m ∷ ms) h = (flows-15 (m .label) (h .0 .label), mailbox-seen ms (h .1))
-
 slot-seen : (n s : ℕ) (x : Slot) → SlotFacts n s x → AllSeen (λ l. flows l 15) x
 slot-seen n s unused h = tt
-slot-seen n s (used t) h = (flows-15 (t .label) (h .label), mailbox-seen (t .mailbox) (h .mailbox .each))
+slot-seen n s (used t) h = (flows-15 (t .label) (h .label), every-weaken MessageFacts (λ (m : Message). flows (m .label) 15 ≡ true) (λ m f. flows-15 (m .label) (f .label)) (t .mailbox) (h .mailbox .each))
 
 -- the observer 15 sees everything
 pub view-15 : (s : State) → Valid s → view 15 s ≡ s

@@ -9,7 +9,7 @@ use borrow.Author.Tests.{leb-true, le-leb, eqb-true}
 use lib.Dec.{leb, eqb}
 use lib.ListN.{length, List·getD-eq-default}
 use Rattle.wire.specs.Lists.{each, all, Every}
-use Rattle.wire.proofs.Lists.{and-both, and-intro, each-intro, each-at, every-at, every-of, every-all}
+use Rattle.wire.proofs.Lists.{and-both, and-intro, each-intro, each-at, every-at, every-of, every-weaken, every-all}
 use Rattle.machine.specs.State.{lastSender, Message, Task, Slot, unused, used, slotAt, isUnused, spareOf, register}
 use Rattle.machine.specs.Turn.{ofLabel}
 use Rattle.machine.specs.Valid.{isProgramLength, messageInRange, mailInRange, sparesUnused, ValidTask, ValidSlot}
@@ -55,10 +55,6 @@ mailbox-test ms f =
     and-intro (all messageInRange ms) (each 16 (λ l. leb (length (ofLabel l ms)) 4))
     (every-all MessageFacts messageInRange (λ m h. and-intro (leb (m .label) 15) (leb (m .sender) lastSender) (le-leb _ _ (h .label)) (le-leb _ _ (h .sender))) ms (f .each))
     (each-intro 16 (λ l. leb (length (ofLabel l ms)) 4) (λ l h. le-leb (length (ofLabel l ms)) 4 (f .four l (omega arith))))
-
-values-of : (ms : List Message) → Every MessageFacts ms → Every (λ m. m .value < 2 ^ 32) ms
-values-of [] f = tt
-values-of (m ∷ ms) f = (f .0 .value, values-of ms (f .1))
 
 -- ---- tasks
 
@@ -106,7 +102,7 @@ module _ (n s : ℕ) where
     mail = mailbox-test (t .mailbox) (f .mailbox);
     registers = f .registers;
     words = every-of (λ (x : ℕ). x < 2 ^ 32) 0 (t .registers) (f .words);
-    values = values-of (t .mailbox) (f .mailbox .each);
+    values = every-weaken MessageFacts (λ (m : Message). m .value < 2 ^ 32) (λ m h. h .value) (t .mailbox) (f .mailbox .each);
   }
 
   pub slot-facts : (x : Slot) → ValidSlot n s x → SlotFacts n s x

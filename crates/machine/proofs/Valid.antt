@@ -110,9 +110,9 @@ module _ (flows : ℕ → ℕ → Bool) (join : ℕ → ℕ → ℕ) (order : Or
     gets-ok : (a x : ℕ) → x < 2 ^ 32 → OutcomeFacts n s (withoutAction (next (withRegister a x t)))
     gets-ok a x h = withoutAction-ok _ (next-ok n s _ (register-ok n s t ok a x h) before)
 
-    taken-ok : (a b : ℕ) (idle : Task) → TaskFacts n s idle → (o : Option Message) → oldest flows t ≡ o → OutcomeFacts n s (taken flows a b idle t o)
-    taken-ok a b idle h none e = withoutAction-ok idle h
-    taken-ok a b idle h (some m) e =
+    taken-ok : (a b : ℕ) (otherwise : Task) → TaskFacts n s otherwise → (o : Option Message) → oldest flows t ≡ o → OutcomeFacts n s (taken flows a b otherwise t o)
+    taken-ok a b otherwise h none e = withoutAction-ok otherwise h
+    taken-ok a b otherwise h (some m) e =
         let g = oldest-ok m e in
         let ms = dropFirst (receivable flows t) (t .mailbox) in
         let left = mailbox-ok n s t ok ms (mailbox-dropFirst (t .mailbox) (ok .mailbox) (receivable flows t)) in
@@ -121,7 +121,7 @@ module _ (flows : ℕ → ℕ → Bool) (join : ℕ → ℕ → ℕ) (order : Or
     execute-ok : (i : Instruction) → Sound n i → Bytes (encode i) → OutcomeFacts n s (execute flows join i s t)
     unfolding execute
     execute-ok End h g = withoutAction-ok _ (kind-ok n s t ok 2 (omega arith) (omega arith))
-    execute-ok (Set a b c) h g = gets-ok a (b * 256 + c) (omega (arith, g 2, g 3))
+    execute-ok (Set a b c) h g = gets-ok a (b * 256 + c) (omega (arith, g .1 .1 .0, g .1 .1 .1 .0))
     execute-ok (Copy a b) h g = gets-ok a (register t b) (ok .words b)
     execute-ok (Add a b c) h g = gets-ok a _ (mod-lt (register t b + register t c) (omega arith))
     execute-ok (Subtract a b c) h g = gets-ok a _ (mod-lt (register t b + 2 ^ 32 - register t c) (omega arith))

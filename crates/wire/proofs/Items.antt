@@ -6,9 +6,9 @@ use native.Mathlib.Nat.{mul-zero, mul-suc}
 use native.Mathlib.Omega.{arith}
 use lib.ListN.{length, take, drop, length-append, length-drop}
 use lib.Seq.{take-add, drop-at}
-use Rattle.wire.specs.Lists.{Bytes, Every}
+use Rattle.wire.specs.Lists.{Every, IsByte, Bytes}
 use Rattle.wire.specs.Items.{decodeItems, encodeItems}
-use Rattle.wire.proofs.Lists.{bytes-drop, bytes-append, bytes-nil}
+use Rattle.wire.proofs.Lists.{every-drop, every-append}
 
 module _ {A : Type 0} (w : ℕ) (f : List ℕ → A) where
   pub length-decode : (k : ℕ) (b : List ℕ) → length (decodeItems w f k b) ≡ k
@@ -20,7 +20,7 @@ module _ {A : Type 0} (w : ℕ) (f : List ℕ → A) where
   pub every-decode : (P : A → Type 0) → ((b : List ℕ) → Bytes b → P (f b)) → (k : ℕ) (b : List ℕ) → Bytes b → Every P (decodeItems w f k b)
   unfolding decodeItems
   every-decode P h zero b g = tt
-  every-decode P h (suc k) b g = (h b g, every-decode P h k (drop w b) (bytes-drop w b g))
+  every-decode P h (suc k) b g = (h b g, every-decode P h k (drop w b) (every-drop IsByte w b g))
 
   module _ (g : A → List ℕ) where
     -- bytes to items and back
@@ -32,7 +32,7 @@ module _ {A : Type 0} (w : ℕ) (f : List ℕ → A) where
         let e : w * suc k ≡ w + w * k = rw mul-suc (omega arith) in
         let m : w + w * k ≤ length b = rw e at l in
         let d : w * k ≤ length (drop w b) = simp length-drop (omega arith) in
-        ap₂ (λ (p q : List ℕ). p ++ q) (one b h (omega arith)) (items-back one k (drop w b) (bytes-drop w b h) d) ∙ rw e (sym (take-add w (w * k) b))
+        ap₂ (λ (p q : List ℕ). p ++ q) (one b h (omega arith)) (items-back one k (drop w b) (every-drop IsByte w b h) d) ∙ rw e (sym (take-add w (w * k) b))
 
     -- items to bytes and back, whatever stands behind them
     pub items-forth : (P : A → Type 0) → ((x : A) → length (g x) ≡ w) → ((x : A) (q : List ℕ) → P x → f (g x ++ q) ≡ x)
@@ -55,5 +55,5 @@ module _ {A : Type 0} (g : A → List ℕ) where
 
   pub items-bytes : (P : A → Type 0) → ((x : A) → P x → Bytes (g x)) → (xs : List A) → Every P xs → Bytes (encodeItems g xs)
   unfolding encodeItems
-  items-bytes P one [] h = bytes-nil
-  items-bytes P one (x ∷ xs) h = bytes-append (g x) (encodeItems g xs) (one x (h .0)) (items-bytes P one xs (h .1))
+  items-bytes P one [] h = tt
+  items-bytes P one (x ∷ xs) h = every-append IsByte (g x) (encodeItems g xs) (one x (h .0)) (items-bytes P one xs (h .1))

@@ -9,8 +9,7 @@ use native.Mathlib.Nat.{not-suc-le-zero}
 use native.Mathlib.Numerals.{add-one}
 use native.Mathlib.Omega.{arith}
 use lib.ListN.{length, getD, set, take, drop}
-use lib.Seq.{getD-drop}
-use Rattle.wire.specs.Lists.{each, Bytes, Every, all, keep, dropFirst}
+use Rattle.wire.specs.Lists.{each, Every, all, keep, dropFirst, IsByte, Bytes}
 
 -- ---- cases
 
@@ -86,29 +85,6 @@ module _ {A : Type 0} where
   take-length-take (suc n) [] = refl
   take-length-take (suc n) (x ∷ l) = rw (← take-length-take n l)
 
--- ---- bytes
-
-pub bytes-drop : (n : ℕ) (s : List ℕ) → Bytes s → Bytes (drop n s)
-bytes-drop n s h i = rw getD-drop (h (n + i))
-
-pub bytes-take : (n : ℕ) (b : List ℕ) → Bytes b → Bytes (take n b)
-bytes-take zero b h i = omega arith
-bytes-take (suc n) [] h i = omega arith
-bytes-take (suc n) (x ∷ b) h zero = h zero
-bytes-take (suc n) (x ∷ b) h (suc i) = bytes-take n b (λ j. h (suc j)) i
-
-pub bytes-append : (s t : List ℕ) → Bytes s → Bytes t → Bytes (s ++ t)
-bytes-append [] t h g i = g i
-bytes-append (x ∷ xs) t h g zero = h zero
-bytes-append (x ∷ xs) t h g (suc i) = bytes-append xs t (λ j. h (suc j)) g i
-
-pub bytes-cons : (x : ℕ) (s : List ℕ) → x < 256 → Bytes s → Bytes (x ∷ s)
-bytes-cons x s h g zero = h
-bytes-cons x s h g (suc i) = g i
-
-pub bytes-nil : Bytes []
-bytes-nil i = omega arith
-
 -- ---- every element
 
 module _ {A : Type 0} (P : A → Type 0) where
@@ -122,9 +98,23 @@ module _ {A : Type 0} (P : A → Type 0) where
   every-of d [] h = tt
   every-of d (x ∷ xs) h = (h 0, every-of d xs (λ i. h (suc i)))
 
+  pub every-drop : (n : ℕ) (xs : List A) → Every P xs → Every P (drop n xs)
+  every-drop zero xs h = h
+  every-drop (suc n) [] h = tt
+  every-drop (suc n) (x ∷ xs) h = every-drop n xs (h .1)
+
+  pub every-take : (n : ℕ) (xs : List A) → Every P xs → Every P (take n xs)
+  every-take zero xs h = tt
+  every-take (suc n) [] h = tt
+  every-take (suc n) (x ∷ xs) h = (h .0, every-take n xs (h .1))
+
   pub every-append : (xs ys : List A) → Every P xs → Every P ys → Every P (xs ++ ys)
   every-append [] ys h g = g
   every-append (x ∷ xs) ys h g = (h .0, every-append xs ys (h .1) g)
+
+  pub every-weaken : (Q : A → Type 0) → ((x : A) → P x → Q x) → (xs : List A) → Every P xs → Every Q xs
+  every-weaken Q f [] h = tt
+  every-weaken Q f (x ∷ xs) h = (f x (h .0), every-weaken Q f xs (h .1))
 
   pub every-keep : (p : A → Bool) (xs : List A) → Every P xs → Every P (keep p xs)
   every-keep p [] h = h
@@ -143,6 +133,9 @@ module _ {A : Type 0} (P : A → Type 0) where
   unfolding all
   every-all p f [] h = refl
   every-all p f (x ∷ xs) h = rw (f x (h .0)) (every-all p f xs (h .1))
+
+pub byte-at : (s : List ℕ) → Bytes s → (i : ℕ) → getD s i 0 < 256
+byte-at s h i = every-at IsByte 0 (omega arith) s h i
 
 -- ---- filters
 

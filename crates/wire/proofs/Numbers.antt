@@ -6,14 +6,14 @@ use native.Mathlib.Nat.{pow-suc, mod-lt}
 use native.Mathlib.Omega.{arith}
 use lib.ListN.{length, getD, take, length-append}
 use lib.Seq.{take-suc, getD-at}
-use Rattle.wire.specs.Lists.{Bytes}
+use Rattle.wire.specs.Lists.{IsByte, Bytes}
 use Rattle.wire.specs.Numbers.{decodeNumber, encodeNumber}
-use Rattle.wire.proofs.Lists.{bytes-append, bytes-cons, bytes-nil}
+use Rattle.wire.proofs.Lists.{byte-at, every-append}
 
 pub encode-decode : (w : ℕ) (s : List ℕ) → Bytes s → w ≤ length s → encodeNumber w (decodeNumber w s) ≡ take w s
 encode-decode zero s h l = refl
 encode-decode (suc w) s h l =
-    let b = h w in
+    let b = byte-at s h w in
     let d : (decodeNumber w s * 256 + getD s w 0) / 256 ≡ decodeNumber w s = omega arith in
     let m : (decodeNumber w s * 256 + getD s w 0) % 256 ≡ getD s w 0 = omega arith in
     rw (d, m, encode-decode w s h (omega arith), take-suc s w 0 l)
@@ -32,9 +32,9 @@ decode-encode (suc w) x q h =
 
 pub decode-lt : (w : ℕ) (s : List ℕ) → Bytes s → decodeNumber w s < 256 ^ w
 decode-lt zero s h = omega arith
-decode-lt (suc w) s h = let b = h w in let ih = decode-lt w s h in rw pow-suc (omega arith)
+decode-lt (suc w) s h = let b = byte-at s h w in let ih = decode-lt w s h in rw pow-suc (omega arith)
 
 pub encode-bytes : (w x : ℕ) → Bytes (encodeNumber w x)
-encode-bytes zero x = bytes-nil
+encode-bytes zero x = tt
 encode-bytes (suc w) x =
-    bytes-append (encodeNumber w (x / 256)) (x % 256 ∷ []) (encode-bytes w (x / 256)) (bytes-cons (x % 256) [] (mod-lt x (omega arith)) bytes-nil)
+    every-append IsByte (encodeNumber w (x / 256)) (x % 256 ∷ []) (encode-bytes w (x / 256)) (mod-lt x (omega arith), tt)

@@ -2,16 +2,11 @@
 use Prim.Native.Nat.{ℕ, zero, suc, _<_}
 use mathlib.Core.Bool.{Bool, true, cond, _&&_}
 use mathlib.Core.List.{List, [], _∷_}
-use lib.ListN.{getD}
 
 -- f passes at each number below n
 unfoldable pub each : ℕ → (ℕ → Bool) → Bool
 each zero f = true
 each (suc n) f = f n && each n f
-
--- every element is a byte; past the end getD gives 0
-abbrev pub Bytes : List ℕ → Type 0
-Bytes s = (i : ℕ) → getD s i 0 < 256
 
 module _ {A : Type 0} where
   -- P holds of every element
@@ -33,3 +28,10 @@ module _ {A : Type 0} where
   abbrev pub dropFirst : (A → Bool) → List A → List A
   dropFirst p [] = []
   dropFirst p (x ∷ xs) = cond (p x) xs (x ∷ dropFirst p xs)
+
+-- every element is a byte
+abbrev pub IsByte : ℕ → Type 0
+IsByte x = x < 256
+
+abbrev pub Bytes : List ℕ → Type 0
+Bytes = Every IsByte
