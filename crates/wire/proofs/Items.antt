@@ -1,20 +1,42 @@
 -- Items to bytes and back, for every width and every kind of item.
-use Prim.Native.Nat.{ℕ, zero, suc, _+_, _*_, _≤_}
+use Prim.Native.Nat.{ℕ, zero, suc, _+_, _*_, _<_, _≤_}
 use mathlib.Core.Path.{_≡_, refl, sym, ap, ap₂, _∙_}
-use mathlib.Core.List.{List, [], _∷_, _++_, append-assoc}
-use native.Mathlib.Nat.{mul-zero, mul-suc}
+use mathlib.Core.Bool.{Bool, cond}
+use mathlib.Core.List.{List, [], _∷_, _++_, map, append-assoc}
+use native.Mathlib.Nat.{mul-zero, mul-suc, not-suc-le-zero, le-of-suc-le-suc}
+use native.Mathlib.Numerals.{add-one}
 use native.Mathlib.Omega.{arith}
-use lib.ListN.{length, take, drop, length-append, length-drop}
-use lib.Seq.{take-add, drop-at}
-use Rattle.wire.specs.Lists.{Every, IsByte, Bytes}
+use lib.ListN.{length, getD, take, drop, length-append, length-drop, drop-of-length-le}
+use lib.Seq.{take-add, drop-at, drop-drop, drop-cons}
+use Rattle.wire.specs.Lists.{Every, keep, IsByte, Bytes}
 use Rattle.wire.specs.Items.{decodeItems, encodeItems}
-use Rattle.wire.proofs.Lists.{every-drop, every-append}
+use Rattle.wire.proofs.Lists.{split, every-drop, every-append}
 
 module _ {A : Type 0} (w : ℕ) (f : List ℕ → A) where
   pub length-decode : (k : ℕ) (b : List ℕ) → length (decodeItems w f k b) ≡ k
   unfolding decodeItems
   length-decode zero b = refl
   length-decode (suc k) b = ap suc (length-decode k (drop w b))
+
+  drop-item : (i : ℕ) (b : List ℕ) → drop (w * i) (drop w b) ≡ drop (w * suc i) b
+  drop-item i b =
+      let e : w + w * i ≡ w * suc i = rw mul-suc (omega arith) in
+      drop-drop (w * i) w b ∙ ap (λ (n : ℕ). drop n b) e
+
+  -- item i, and one item more
+  pub decode-at : (k : ℕ) (b : List ℕ) (i : ℕ) (d : A) → i < k → getD (decodeItems w f k b) i d ≡ f (drop (w * i) b)
+  unfolding decodeItems
+  decode-at zero b i d h = absurd (not-suc-le-zero h)
+  decode-at (suc k) b zero d h = rw mul-zero
+  decode-at (suc k) b (suc i) d h =
+      decode-at k (drop w b) i d (le-of-suc-le-suc h) ∙ ap f (drop-item i b)
+
+  pub decode-more : (k : ℕ) (b : List ℕ) → decodeItems w f (suc k) b ≡ decodeItems w f k b ++ (f (drop (w * k) b) ∷ [])
+  unfolding decodeItems
+  decode-more zero b = rw mul-zero
+  decode-more (suc k) b =
+      ap (λ (r : List A). f b ∷ r)
+      (decode-more k (drop w b) ∙ ap (λ (c : List ℕ). decodeItems w f k (drop w b) ++ (f c ∷ [])) (drop-item k b))
 
   -- what holds of each item that f reads from bytes
   pub every-decode : (P : A → Type 0) → ((b : List ℕ) → Bytes b → P (f b)) → (k : ℕ) (b : List ℕ) → Bytes b → Every P (decodeItems w f k b)
@@ -45,6 +67,33 @@ module _ {A : Type 0} (w : ℕ) (f : List ℕ → A) where
         (ap₂ (λ (a : A) (r : List A). a ∷ r) (one x rest (h .0)) (ap (decodeItems w f (length xs)) (drop-at (g x) rest w (size x)) ∙ items-forth P size one xs q (h .1)))
 
 module _ {A : Type 0} (g : A → List ℕ) where
+  -- item i and the items behind it
+  pub items-next : (xs : List A) (i : ℕ) (d : A) → i < length xs → encodeItems g (drop i xs) ≡ g (getD xs i d) ++ encodeItems g (drop (i + 1) xs)
+  unfolding encodeItems
+  items-next xs i d h = rw (drop-cons xs i d h, add-one i)
+
+  -- a count of their bytes: item i counted, and all of them
+  pub count-next : (xs : List A) (i n r : ℕ) (d : A) → i < length xs → r ≡ length (g (getD xs i d)) → length (encodeItems g xs) ≡ n + length (encodeItems g (drop i xs))
+      → length (encodeItems g xs) ≡ n + r + length (encodeItems g (drop (i + 1) xs))
+  count-next xs i n r d h e p =
+      omega (arith, ap length (items-next xs i d h), length-append (g (getD xs i d)) (encodeItems g (drop (i + 1) xs)))
+
+  pub count-all : (xs : List A) (i n : ℕ) → length xs ≤ i → length (encodeItems g xs) ≡ n + length (encodeItems g (drop i xs)) → n ≡ length (encodeItems g xs)
+  unfolding encodeItems
+  count-all xs i n h p = let none : length (encodeItems g (drop i xs)) ≡ 0 = rw (drop-of-length-le xs {i = i} h) in omega arith
+
+  -- items made of others
+  pub items-map : {B : Type 0} (f : B → A) (xs : List B) → encodeItems g (map f xs) ≡ encodeItems (λ x. g (f x)) xs
+  unfolding encodeItems
+  items-map f [] = refl
+  items-map f (x ∷ xs) = rw (items-map f xs)
+
+  -- the items that pass a test
+  pub items-keep : (p : A → Bool) (xs : List A) → encodeItems g (keep p xs) ≡ encodeItems (λ x. cond (p x) (g x) []) xs
+  unfolding encodeItems
+  items-keep p [] = refl
+  items-keep p (x ∷ xs) = let ih = items-keep p xs in split (p x) (λ e. rw (e, ih)) (λ e. rw (e, ih))
+
   pub length-items : (w : ℕ) → ((x : A) → length (g x) ≡ w) → (xs : List A) → length (encodeItems g xs) ≡ w * length xs
   unfolding encodeItems
   length-items w size [] = rw mul-zero

@@ -1,5 +1,6 @@
 -- The laws of the crate `wire`, a file each.
 pub mod Lists
 pub mod Numbers
-pub mod Output
 pub mod Items
+pub mod Output
+pub mod Tabulate

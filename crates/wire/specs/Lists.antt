@@ -1,7 +1,8 @@
 -- Tests over numbers and lists: each number below a bound, each element, the elements that pass.
 use Prim.Native.Nat.{ℕ, zero, suc, _<_}
 use mathlib.Core.Bool.{Bool, true, cond, _&&_}
-use mathlib.Core.List.{List, [], _∷_}
+use mathlib.Core.List.{List, [], _∷_, _++_}
+use lib.ListN.{take, drop}
 
 -- f passes at each number below n
 unfoldable pub each : ℕ → (ℕ → Bool) → Bool
@@ -9,6 +10,15 @@ each zero f = true
 each (suc n) f = f n && each n f
 
 module _ {A : Type 0} where
+  -- f 0, f 1, .., f (n - 1)
+  unfoldable pub tabulate : ℕ → (ℕ → A) → List A
+  tabulate zero f = []
+  tabulate (suc n) f = f 0 ∷ tabulate n (λ i. f (suc i))
+
+  -- all but the element at index i
+  abbrev pub without : ℕ → List A → List A
+  without i xs = take i xs ++ drop (suc i) xs
+
   -- P holds of every element
   abbrev pub Every : (A → Type 0) → List A → Type 0
   Every P [] = Unit {0}

@@ -1,0 +1,50 @@
+-- Laws of lists made from a function of the index.
+use mathlib.Core.Path.{_≡_, refl, ap}
+use mathlib.Core.List.{List, [], _∷_, _++_}
+use Prim.Native.Nat.{ℕ, zero, suc, _<_, _≤_}
+use native.Mathlib.Nat.{le-of-suc-le-suc, not-suc-le-zero}
+use native.Mathlib.Omega.{arith}
+use lib.ListN.{length, getD, drop, set}
+use Rattle.wire.specs.Lists.{tabulate}
+
+module _ {A : Type 0} where
+  pub length-tabulate : (n : ℕ) (f : ℕ → A) → length (tabulate n f) ≡ n
+  unfolding tabulate
+  length-tabulate zero f = refl
+  length-tabulate (suc n) f = ap suc (length-tabulate n (λ i. f (suc i)))
+
+  pub getD-tabulate : (n : ℕ) (f : ℕ → A) (i : ℕ) (d : A) → i < n → getD (tabulate n f) i d ≡ f i
+  unfolding tabulate
+  getD-tabulate zero f i d h = absurd (not-suc-le-zero h)
+  getD-tabulate (suc n) f zero d h = refl
+  getD-tabulate (suc n) f (suc i) d h = getD-tabulate n (λ i. f (suc i)) i d (le-of-suc-le-suc h)
+
+  pub tabulate-same : (n : ℕ) (f g : ℕ → A) → ((i : ℕ) → i < n → g i ≡ f i) → tabulate n g ≡ tabulate n f
+  unfolding tabulate
+  tabulate-same zero f g h = refl
+  tabulate-same (suc n) f g h =
+      let first : g 0 ≡ f 0 = h 0 (omega arith) in
+      let rest : tabulate n (λ i. g (suc i)) ≡ tabulate n (λ i. f (suc i)) =
+      tabulate-same n (λ i. f (suc i)) (λ i. g (suc i)) (λ i l. h (suc i) (omega arith)) in
+      cc
+
+  -- one element changed
+  pub tabulate-set : (n : ℕ) (f g : ℕ → A) (k : ℕ) → ((i : ℕ) → i < n → (i ≡ k → ⊥) → g i ≡ f i) → k < n → tabulate n g ≡ set (tabulate n f) k (g k)
+  unfolding tabulate
+  tabulate-set zero f g k h l = absurd (not-suc-le-zero l)
+  tabulate-set (suc n) f g zero h l =
+      let rest : tabulate n (λ i. g (suc i)) ≡ tabulate n (λ i. f (suc i)) =
+      tabulate-same n (λ i. f (suc i)) (λ i. g (suc i)) (λ i l. h (suc i) (omega arith) (λ e. omega arith)) in
+      cc
+  tabulate-set (suc n) f g (suc k) h l =
+      let first : g 0 ≡ f 0 = h 0 (omega arith) (λ e. omega arith) in
+      let rest : tabulate n (λ i. g (suc i)) ≡ set (tabulate n (λ i. f (suc i))) k (g (suc k)) =
+      tabulate-set n (λ i. f (suc i)) (λ i. g (suc i)) k (λ i l ne. h (suc i) (omega arith) (λ e. ne (omega arith))) (le-of-suc-le-suc l) in
+      cc
+
+  -- the front of a list, element by element
+  pub tabulate-front : (n : ℕ) (l : List A) (d : A) → n ≤ length l → tabulate n (λ i. getD l i d) ++ drop n l ≡ l
+  unfolding tabulate
+  tabulate-front zero l d h = refl
+  tabulate-front (suc n) [] d h = absurd (not-suc-le-zero h)
+  tabulate-front (suc n) (x ∷ l) d h = ap (λ (r : List A). x ∷ r) (tabulate-front n l d (le-of-suc-le-suc h))
