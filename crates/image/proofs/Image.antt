@@ -18,11 +18,22 @@ use Rattle.instruction.specs.Program.{count, allLegal}
 use Rattle.machine.specs.State.{State, slotAt}
 use Rattle.machine.specs.Valid.{isProgramLength, isTurnSlot, sparesUnused, ValidSlot, Valid}
 use Rattle.machine.proofs.Rules.{size-facts}
-use Rattle.image.specs.Refusal.{unless, short}
+use Rattle.image.specs.Refusal.{_then_, unless, short}
 use Rattle.image.specs.Record.{recordBytes}
 use Rattle.image.specs.Image.{programLength, turnSlotAt, slotsAt, programOf, turnSlotOf, slotsPart, versionNumber, programNumber, turnSlotNumber, recordLength, span, skip, slotsOf, slotsNumber, tailNumber, spareNumber, imageNumber, stateOf, recordStart, recordPart, slotsBytes, imageBytes}
-use Rattle.image.proofs.Refusal.{then-left, then-right, then-holds, Listed, listed-unless, listed-short, unless-none, short-none}
+use Rattle.image.proofs.Refusal.{then-left, then-right, then-assoc, then-holds, Listed, listed-unless, listed-short, unless-none, short-none}
 use Rattle.image.proofs.Slots.{slots-back, slots-valid, slots-length, slots-listed, length-slotsOf, slot-at, skip-drop, record-at, slots-number, slots-forth, slots-end, slots-bytes}
+
+-- what stands ahead of the slots, then the rest
+pub image-number : (b : List ℕ) → imageNumber b
+    ≡ ((versionNumber b then programNumber b then turnSlotNumber b)
+    then slotsNumber 16 0 (count (programOf b)) (slotsPart b)
+    then tailNumber b
+    then spareNumber b)
+unfolding imageNumber
+image-number b =
+    let rest = slotsNumber 16 0 (count (programOf b)) (slotsPart b) then tailNumber b then spareNumber b in
+    sym (then-assoc (versionNumber b) (programNumber b then turnSlotNumber b) rest ∙ ap (λ (x : ℕ). versionNumber b then x) (then-assoc (programNumber b) (turnSlotNumber b) rest))
 
 -- ---- what acceptance says, part by part
 
@@ -238,7 +249,7 @@ image-listed b =
 -- ---- the part that holds a record
 
 -- where it stands: behind its length
-record-at-start : (b : List ℕ) (s : ℕ) → drop (recordStart b s) b ≡ drop 2 (skip s (slotsPart b))
+pub record-at-start : (b : List ℕ) (s : ℕ) → drop (recordStart b s) b ≡ drop 2 (skip s (slotsPart b))
 unfolding recordStart slotsPart
 record-at-start b s =
     let part = drop (slotsAt b) b in

@@ -1,6 +1,9 @@
 -- The laws of the crate `image`, a file each.
 pub mod Refusal
-pub mod Record
+pub mod Records
 pub mod Slots
+pub mod Walk
+pub mod Mail
+pub mod Spares
 pub mod Image
 pub mod Examples

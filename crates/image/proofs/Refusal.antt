@@ -22,6 +22,15 @@ then-right (suc x) y e = absurd (suc-ne-zero x e)
 pub then-none : (x y : ℕ) → x ≡ 0 → y ≡ 0 → (x then y) ≡ 0
 then-none x y e f = rw (e, f)
 
+-- a number that is met is the first
+pub then-stop : (x : ℕ) → x ≢ 0 → (y : ℕ) → (x then y) ≡ x
+then-stop zero h y = absurd (h refl)
+then-stop (suc x) h y = refl
+
+pub then-assoc : (x y z : ℕ) → ((x then y) then z) ≡ (x then y then z)
+then-assoc zero y z = refl
+then-assoc (suc x) y z = refl
+
 -- what holds of each number holds of the first met
 module _ (P : ℕ → Type 0) where
   pub then-holds : (x y : ℕ) → P x → P y → P (x then y)

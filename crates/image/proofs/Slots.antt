@@ -22,7 +22,7 @@ use Rattle.image.specs.Refusal.{unless, short}
 use Rattle.image.specs.Record.{slotOf, recordBytes, recordNumber}
 use Rattle.image.specs.Image.{recordLength, recordOf, behind, span, skip, slotsOf, isRecordLength, slotNumber, slotsNumber, slotBytes, slotsBytes}
 use Rattle.image.proofs.Refusal.{then-left, then-right, then-none, then-holds, Listed, listed-none, listed-unless, listed-short, unless-none, short-none, long-enough}
-use Rattle.image.proofs.Record.{task-back, task-length, slot-forth, record-bytes, record-valid, valid-record}
+use Rattle.image.proofs.Records.{task-back, task-length, slot-forth, record-bytes, record-valid, valid-record}
 
 -- ---- lengths of records
 

@@ -1,5 +1,6 @@
 -- Records to tasks and back, tasks to records and back, and what the numbers 9 and 10 leave: valid tasks.
 use Prim.Native.Nat.{ℕ, _+_, _*_, _-_, _/_, _%_, _^_, _<_, _≤_}
+use mathlib.Core.Logic.{_≢_}
 use mathlib.Core.Path.{_≡_, refl, sym, ap, ap₂, _∙_}
 use mathlib.Core.List.{List, [], _∷_, _++_, append-nil}
 use native.Mathlib.Nat.{not-suc-le-zero, le-of-suc-le-suc}
@@ -15,7 +16,7 @@ use Rattle.wire.proofs.Numbers.{length-encode, encode-decode, decode-encode, de
 use Rattle.machine.specs.State.{Message, Task, Slot, unused, used}
 use Rattle.machine.specs.Valid.{fieldsInRange, mailInRange, ValidTask, ValidSlot}
 use Rattle.machine.proofs.Rules.{MessageFacts, task-facts}
-use Rattle.image.specs.Refusal.{unless}
+use Rattle.image.specs.Refusal.{_then_, unless}
 use Rattle.image.specs.Record.{messageOf, taskOf, slotOf, messageBytes, taskBytes, recordBytes, recordNumber}
 use Rattle.image.proofs.Refusal.{then-left, then-right, unless-none}
 
@@ -115,6 +116,11 @@ record-valid s n (x ∷ q) h e =
           every-decode 6 messageOf (λ (m : Message). m .value < 2 ^ 32) (λ b g. decode-lt 4 (drop 2 b) (every-drop IsByte 2 b g))
           (length (drop 37 r) / 6) (drop 37 r) (every-drop IsByte 37 r h);
     }
+
+-- the number of a record that is not empty
+pub task-number : (s n : ℕ) (r : List ℕ) → length r ≢ 0 → recordNumber s n (slotOf r) ≡ (unless (fieldsInRange s n (taskOf r)) 9 then unless (mailInRange (taskOf r .mailbox)) 10)
+task-number s n [] h = absurd (h refl)
+task-number s n (x ∷ r) h = refl
 
 -- ---- and a valid task gives none
 

@@ -1,0 +1,75 @@
+-- `image::mail_in_range` meets its contract: the counts are those of the messages read, which are in range.
+use Prim.Native.Nat.{_≤_, _-_, _/_, _<_}
+use mathlib.Core.Path.{_≡_, sym}
+use borrow.Author.Tests.{leb-true}
+use native.Mathlib.Omega.{arith}
+use denote.Ref.{now}
+use lib.Dec.{leb}
+use lib.ListN.{length}
+use Rattle.wire.specs.Items.{decodeItems}
+use Rattle.wire.proofs.Lists.{and-both}
+use Rattle.image.proofs.Mail.{messages, Counted, counted-none, counted-mail, message-counted, message-fifth, message-out-of-range}
+use Rattle.image.proofs.mail_in_range.Statement.{statement}
+use Rattle.image.proofs.mail_in_range.Tie as tie
+
+abbrev Inv-loop : tie.InvT-loop
+Inv-loop task mailbox k counts₀ j₀ counts j = (j ≤ k) × Counted counts (messages j mailbox)
+
+abbrev μ-loop : tie.MeasureT-loop
+μ-loop task mailbox k counts₀ j₀ counts j = k - j
+
+-- a label in range has a count
+label-low : (c : tie.Then1 Inv-loop μ-loop) → c .before .before .byte-at .result < 16
+label-low c = omega (arith, leb-true (c .before .before .byte-at .result) 15 (and-both (leb (c .before .before .byte-at .result) 15) (leb (c .before .byte-at2 .result) 15) (c .if1 .taken) .0))
+
+loop-again : tie.Need-loop-again Inv-loop μ-loop
+loop-again c =
+    let d = c .before .before in
+    let h = c .before .before .before .before .before .loop in
+    (omega arith, message-counted _ (h .j) _ _ (d .before .byte-at .ensures) (d .byte-at2 .ensures) (h .counts) (h .inv .1) (c .before .if1 .taken) (c .if2 .taken))
+
+returns : tie.Need-returns Inv-loop μ-loop
+returns c =
+    let d = c .before .before in
+    let h = c .before .before .before .before .before .loop in
+    rw (← c .before .before .before .before .before .before .drop .ensures)
+    (sym (message-fifth _ (h .j) _ _ (d .before .byte-at .ensures) (d .byte-at2 .ensures) (h .counts) (h .inv .1) (c .before .if1 .taken) _ (c .before .before .before .before .loop-test .taken) (c .if2 .left)))
+
+returns-2 : tie.Need-returns-2 Inv-loop μ-loop
+returns-2 c =
+    let d = c .before in
+    let h = c .before .before .before .before .loop in
+    rw (← c .before .before .before .before .before .drop .ensures)
+    (sym (message-out-of-range _ (h .j) _ _ (d .before .byte-at .ensures) (d .byte-at2 .ensures) _ (c .before .before .before .loop-test .taken) (c .if1 .left)))
+
+returns-3 : tie.Need-returns-3 Inv-loop μ-loop
+returns-3 c =
+    let h = c .before .loop in
+    let mailbox = now (c .before .before .drop .result) in
+    let all : h .j ≡ length mailbox / 6 = omega arith in
+    rw (← c .before .before .drop .ensures, ← all) (sym (counted-mail (h .counts) (messages (h .j) mailbox) (h .inv .1)))
+
+pub mail-in-range-spec : {M : Type 1} → statement M
+unfolding decodeItems
+mail-in-range-spec =
+    tie.close
+    (tie.spec
+    Inv-loop
+    μ-loop
+    (λ c κs. tt)
+    (λ c. (omega arith, counted-none))
+    (λ c. omega arith)
+    (λ c κs. tt)
+    (λ c. omega arith)
+    (λ c. omega arith)
+    (λ c. omega arith)
+    (λ c κs. tt)
+    (λ c. label-low c)
+    (λ c. omega arith)
+    (λ c. label-low (c .before))
+    (λ c. omega arith)
+    (λ c. omega arith)
+    loop-again
+    returns
+    returns-2
+    returns-3)
