@@ -1,0 +1,86 @@
+-- Laws of the messages that a slot's words hold: where their words stand, and what a message stored changes in the task.
+use Prim.Native.Nat.{ℕ, _+_, _%_, _<_}
+use mathlib.Core.Path.{_≡_, _∙_}
+use mathlib.Core.Logic.{_≢_}
+use mathlib.Core.List.{List}
+use native.Mathlib.Omega.{arith}
+use lib.ListN.{length, getD, take, drop, set, length-set}
+use lib.Seq.{getD-drop, getD-set-same, getD-set-other}
+use Rattle.wire.specs.Lists.{tabulate}
+use Rattle.wire.proofs.Tabulate.{tabulate-set}
+use Rattle.machine.specs.State.{Message, withMailbox}
+use Rattle.table.specs.Table.{messageIn, messagesIn, taskIn}
+use Rattle.table.specs.Words.{storeMessage}
+use Rattle.table.proofs.Task.{low-byte, registers-kept}
+
+pub message-words : (w : List ℕ) (i : ℕ)
+    → messageIn w i ≡ record { label = getD w (16 + i) 0 % 256; sender = getD w (80 + i) 0 % 256; value = getD w (144 + i) 0 }
+unfolding messageIn
+message-words w i = rw (getD-drop 16 w i 0, getD-drop 80 w i 0, getD-drop 144 w i 0)
+
+-- message i stored: the words after its label, and then its sender
+module _ (i : ℕ) (m : Message) (w : List ℕ) where
+  abbrev labelled : List ℕ
+  labelled = set w (16 + i) (m .label)
+
+  abbrev sent : List ℕ
+  sent = set labelled (80 + i) (m .sender)
+
+  word-kept : (k : ℕ) → k ≢ 16 + i → k ≢ 80 + i → k ≢ 144 + i → getD (storeMessage i m w) k 0 ≡ getD w k 0
+  unfolding storeMessage
+  word-kept k a b c =
+      getD-set-other sent (144 + i) k (m .value) 0 c ∙ getD-set-other labelled (80 + i) k (m .sender) 0 b ∙ getD-set-other w (16 + i) k (m .label) 0 a
+
+  module _ (small : i < 64) where
+    message-other : (j : ℕ) → j < 64 → j ≢ i → messageIn (storeMessage i m w) j ≡ messageIn w j
+    message-other j h ne =
+        rw (
+          message-words (storeMessage i m w) j,
+          message-words w j,
+          word-kept (16 + j) (λ e. ne (omega arith)) (λ e. omega arith) (λ e. omega arith),
+          word-kept (80 + j) (λ e. omega arith) (λ e. ne (omega arith)) (λ e. omega arith),
+          word-kept (144 + j) (λ e. omega arith) (λ e. omega arith) (λ e. ne (omega arith)),
+        )
+
+    message-same : length w ≡ 208 → m .label < 256 → m .sender < 256 → messageIn (storeMessage i m w) i ≡ m
+    unfolding storeMessage
+    message-same long a b =
+        rw (
+          message-words (storeMessage i m w) i,
+          getD-set-other sent (144 + i) (16 + i) (m .value) 0 (λ e. omega arith),
+          getD-set-other labelled (80 + i) (16 + i) (m .sender) 0 (λ e. omega arith),
+          getD-set-same w (16 + i) (m .label) 0 (omega arith),
+          getD-set-other sent (144 + i) (80 + i) (m .value) 0 (λ e. omega arith),
+          getD-set-same labelled (80 + i) (m .sender) 0 (simp length-set (omega arith)),
+          getD-set-same sent (144 + i) (m .value) 0 (simp length-set (omega arith)),
+          low-byte (m .label) a,
+          low-byte (m .sender) b,
+        )
+
+    pub messages-stored : length w ≡ 208 → m .label < 256 → m .sender < 256 → messagesIn (storeMessage i m w) ≡ set (messagesIn w) i m
+    unfolding messagesIn
+    messages-stored long a b =
+        rw (tabulate-set 64 (messageIn w) (messageIn (storeMessage i m w)) i message-other small, message-same long a b)
+
+    field-kept : (k : ℕ) → k < 16 → getD (storeMessage i m w) k 0 ≡ getD w k 0
+    field-kept k h = word-kept k (λ e. omega arith) (λ e. omega arith) (λ e. omega arith)
+
+    registers-stay : tabulate 8 (λ b. getD (drop 4 (storeMessage i m w)) b 0) ≡ tabulate 8 (λ b. getD (drop 4 w) b 0)
+    unfolding storeMessage
+    registers-stay =
+        registers-kept (144 + i) (m .value) sent (omega arith) ∙ registers-kept (80 + i) (m .sender) labelled (omega arith)
+        ∙ registers-kept (16 + i) (m .label) w (omega arith)
+
+    pub message-stored : length w ≡ 208 → m .label < 256 → m .sender < 256
+        → taskIn (storeMessage i m w) ≡ withMailbox (take (getD w 12 0) (set (messagesIn w) i m)) (taskIn w)
+    unfolding taskIn
+    message-stored long a b =
+        rw (
+          field-kept 0 (omega arith),
+          field-kept 1 (omega arith),
+          field-kept 2 (omega arith),
+          field-kept 3 (omega arith),
+          field-kept 12 (omega arith),
+          registers-stay,
+          messages-stored long a b,
+        )

@@ -1,0 +1,116 @@
+-- Laws of the sixteen slots that the table's words mean.
+use Prim.Native.Nat.{ℕ, _%_, _<_, _≤_, min}
+use mathlib.Core.Path.{_≡_, refl, sym, ap, _∙_}
+use mathlib.Core.Logic.{_≢_, dite}
+use mathlib.Core.List.{List}
+use native.Mathlib.Decide.{decLt}
+use native.Mathlib.Omega.{arith}
+use borrow.Author.Tests.{eqb-false}
+use lib.Dec.{eqb}
+use lib.ListN.{length, getD, drop, set, length-take, List·getD-eq-default}
+use lib.Seq.{getD-take, set-out}
+use Rattle.wire.specs.Lists.{tabulate}
+use Rattle.wire.proofs.Lists.{split}
+use Rattle.wire.proofs.Tabulate.{length-tabulate, getD-tabulate, tabulate-same, tabulate-set}
+use Rattle.machine.specs.State.{Task, Slot, unused, used, slotAt}
+use Rattle.table.specs.Table.{window, messageIn, messagesIn, taskIn, held, slotsIn}
+use Rattle.table.specs.Change.{noMessage, noTask, taskOr, taskAt, messageAt, changeSlot, change}
+use Rattle.table.specs.Words.{fieldWord, Rewrite}
+use Rattle.table.proofs.Change.{length-slots}
+use Rattle.table.proofs.Window.{window-length, window-past}
+
+slot-past : (t : List ℕ) (s : ℕ) → 16 ≤ s → slotAt (slotsIn t) s ≡ unused
+slot-past t s h = List·getD-eq-default (slotsIn t) unused (rw length-slots h)
+
+pub slot-in : (t : List ℕ) (s : ℕ) → s < 16 → slotAt (slotsIn t) s ≡ held (taskIn (window t s))
+unfolding slotsIn
+slot-in t s h = getD-tabulate 16 (λ j. held (taskIn (window t j))) s unused h
+
+pub slot-at : (t : List ℕ) (s : ℕ) → length t ≡ 3328 → slotAt (slotsIn t) s ≡ held (taskIn (window t s))
+unfolding taskIn
+slot-at t s full =
+    dite (decLt s 16) (slot-in t s) (λ l. let past : 16 ≤ s = omega arith in rw (window-past t s full past) (slot-past t s past))
+
+-- ---- changing
+
+held-change : (g : Task → Task) (k : Task) → g k .kind ≡ k .kind → held (g k) ≡ changeSlot g (held k)
+held-change g k e =
+    let same : eqb (g k .kind) 0 ≡ eqb (k .kind) 0 = rw e in
+    split (eqb (k .kind) 0) (λ z. rw (same, z)) (λ z. rw (same, z))
+
+module _ {s : ℕ} {f : List ℕ → List ℕ} {t u : List ℕ} (p : Rewrite s f t u) where
+  -- no other slot has changed
+  pub slots-set : (x : Slot) → (s < 16 → held (taskIn (f (window t s))) ≡ x) → slotsIn u ≡ set (slotsIn t) s x
+  unfolding slotsIn
+  slots-set x e =
+      let old : ℕ → Slot = λ j. held (taskIn (window t j)) in
+      let new : ℕ → Slot = λ j. held (taskIn (window u j)) in
+      let same : (j : ℕ) → j ≢ s → new j ≡ old j = λ j ne. ap (λ (w : List ℕ). held (taskIn w)) (p .other j ne) in
+      dite (decLt s 16)
+      (λ l.
+      tabulate-set 16 old new s (λ j _ ne. same j ne) l
+      ∙ ap (set (tabulate 16 old) s) (ap (λ (w : List ℕ). held (taskIn w)) (p .here l) ∙ e l))
+      (λ l.
+      tabulate-same 16 old new (λ j h. same j (λ e. omega arith)) ∙ sym (set-out (tabulate 16 old) s x (rw length-tabulate (omega arith))))
+
+  -- a change of the task that leaves its kind
+  pub slots-change : length t ≡ 3328 → (g : Task → Task) → ((k : Task) → g k .kind ≡ k .kind)
+      → (length (window t s) ≡ 208 → taskIn (f (window t s)) ≡ g (taskIn (window t s))) → slotsIn u ≡ change s g (slotsIn t)
+  slots-change full g same e =
+      slots-set (changeSlot g (slotAt (slotsIn t) s))
+      (λ l. rw (slot-in t s l, e (window-length t s full l)) (held-change g (taskIn (window t s)) (same (taskIn (window t s)))))
+
+-- ---- reading
+
+held-used : (j k : Task) → held j ≡ used k → j ≡ k
+held-used j k = split (eqb (j .kind) 0) (λ z. rw z (λ e. cc)) (λ z. rw z (λ e. cc))
+
+-- what holds of every slot that is read, whatever the table's length
+pub slot-any : (P : Slot → Type 0) → P unused → ((w : List ℕ) → P (held (taskIn w))) → (t : List ℕ) (s : ℕ) → P (slotAt (slotsIn t) s)
+slot-any P none some t s = dite (decLt s 16) (λ l. rw (slot-in t s l) (some (window t s))) (λ l. rw (slot-past t s (omega arith)) none)
+
+-- a task in the table has a kind, and eight registers
+clash : (k : Task) → unused ≡ used k → ⊥
+clash k e = let z : _≡_ {A = ℕ} 0 1 = cc in omega arith
+
+held-kind : (j k : Task) → held j ≡ used k → k .kind ≢ 0
+held-kind j k = split (eqb (j .kind) 0) (λ z. rw z (λ e. absurd (clash k e))) (λ z. rw z (λ e. let same : j ≡ k = cc in rw same at (eqb-false (j .kind) 0 z)))
+
+pub used-kind : (t : List ℕ) (s : ℕ) (k : Task) → slotAt (slotsIn t) s ≡ used k → k .kind ≢ 0
+used-kind = slot-any (λ x. (k : Task) → x ≡ used k → k .kind ≢ 0) (λ k e. absurd (clash k e)) (λ w k e. held-kind (taskIn w) k e)
+
+pub used-registers : (t : List ℕ) (s : ℕ) (k : Task) → slotAt (slotsIn t) s ≡ used k → length (k .registers) ≡ 8
+unfolding taskIn
+used-registers =
+    slot-any (λ x. (k : Task) → x ≡ used k → length (k .registers) ≡ 8) (λ k e. cc)
+    (λ w k e. rw (← held-used (taskIn w) k e) (length-tabulate 8 (λ a. getD (drop 4 w) a 0)))
+
+pub registers-short : (t : List ℕ) (s : ℕ) → length (taskAt (slotsIn t) s .registers) ≤ 8
+unfolding taskIn
+registers-short =
+    slot-any (λ x. length (taskOr x .registers) ≤ 8) (omega arith)
+    (λ w. split (eqb (getD w 0 0 % 256) 0) (λ z. rw z (omega arith)) (λ z. rw z (rw length-tabulate (omega arith))))
+
+module _ (t : List ℕ) (s : ℕ) (full : length t ≡ 3328) where
+  pub used-task : (k : Task) → slotAt (slotsIn t) s ≡ used k → k ≡ taskIn (window t s)
+  used-task k e = sym (held-used (taskIn (window t s)) k (sym (slot-at t s full) ∙ e))
+
+  -- what f makes of word i is what p reads of the task, also where there is none
+  pub field-read : (i : ℕ) (p : Task → ℕ) (f : ℕ → ℕ) → f 0 ≡ p noTask → f (getD (window t s) i 0) ≡ p (taskIn (window t s))
+      → f (fieldWord (window t s) i) ≡ p (taskAt (slotsIn t) s)
+  unfolding taskIn
+  field-read i p f a b = rw (slot-at t s full) (split (eqb (getD (window t s) 0 0 % 256) 0) (λ z. rw z a) (λ z. rw z b))
+
+  pub mailbox-read : min (fieldWord (window t s) 12) 64 ≡ length (taskAt (slotsIn t) s .mailbox)
+  unfolding taskIn messagesIn
+  mailbox-read = field-read 12 (λ k. length (k .mailbox)) (λ x. min x 64) refl (sym (rw (length-take, length-tabulate)))
+
+  pub message-read : (i : ℕ) → i < length (taskAt (slotsIn t) s .mailbox) → messageAt (slotsIn t) s i ≡ messageIn (window t s) i
+  unfolding taskIn messagesIn
+  message-read i =
+      let w = window t s in
+      rw (slot-at t s full)
+      (split (eqb (getD w 0 0 % 256) 0)
+      (λ z. rw z (λ h. absurd (omega arith)))
+      (λ z. rw (z, length-take, length-tabulate)
+      (λ h. getD-take (getD w 12 0) (tabulate 64 (messageIn w)) i noMessage (omega arith) ∙ getD-tabulate 64 (messageIn w) i noMessage (omega arith))))

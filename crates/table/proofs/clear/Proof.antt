@@ -1,0 +1,15 @@
+-- `table::clear` meets its contract: a task of kind 0 is none.
+use mathlib.Core.Path.{refl}
+use native.Mathlib.Omega.{arith}
+use denote.Ref.{now}
+use Rattle.table.proofs.Held.{clear-slots}
+use Rattle.table.proofs.clear.Statement.{statement}
+use Rattle.table.proofs.clear.Tie as tie
+
+returns : tie.Need-returns
+returns c =
+    let a = c .before .before .args in
+    clear-slots (now (a .t)) (a .s) 0 (c .put .last .0) (c .put .ensures .0) (omega arith) (c .put .ensures .1) refl
+
+pub clear-spec : {M : Type 1} → statement M
+clear-spec = tie.close (tie.spec (λ c κs. omega arith) returns)

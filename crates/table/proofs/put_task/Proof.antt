@@ -1,0 +1,31 @@
+-- `table::put_task` meets its contract: what is read of the stored words is the new task, whatever stood there.
+use mathlib.Core.Path.{ap}
+use native.Mathlib.Omega.{arith}
+use denote.Ref.{now}
+use Rattle.table.specs.Table.{window, held}
+use Rattle.table.specs.Change.{newTask}
+use Rattle.table.proofs.Window.{rewrite-then}
+use Rattle.table.proofs.Task.{task-stored}
+use Rattle.table.proofs.Slots.{slots-set}
+use Rattle.table.proofs.put_task.Statement.{statement}
+use Rattle.table.proofs.put_task.Tie as tie
+
+returns : tie.Need-returns
+returns c =
+    let spare = c .before .before in
+    let label = spare .before .before in
+    let kind = label .before .before in
+    let cleared = kind .before .before in
+    let a = cleared .before .before .args in
+    slots-set
+    (rewrite-then
+    (rewrite-then
+    (rewrite-then (rewrite-then (cleared .clear-fields .ensures) (kind .put .ensures .1)) (label .put2 .ensures .1))
+    (spare .put3 .ensures .1))
+    (c .put4 .ensures .1))
+    (held (newTask (a .kind) (a .label) (a .spare) (a .pc)))
+    (λ l. ap held (task-stored (a .kind) (a .label) (a .spare) (a .pc) (window (now (a .t)) (a .s)) (omega arith) (omega arith) (omega arith)))
+
+pub put-task-spec : {M : Type 1} → statement M
+put-task-spec =
+    tie.close (tie.spec (λ c κs. tt) (λ c κs. omega arith) (λ c κs. omega arith) (λ c κs. omega arith) (λ c κs. omega arith) returns)

@@ -1,0 +1,62 @@
+-- What the table's functions read of the slots and change in them. An unused slot holds no task, and there is none above 15.
+use Prim.Native.Nat.{ℕ, _+_}
+use mathlib.Core.List.{List, [], _∷_, _++_}
+use lib.ListN.{getD, set, take, replicate}
+use Rattle.wire.specs.Lists.{without}
+use Rattle.machine.specs.State.{Message, Task, Slot, unused, used, slotAt, withKind, withMailbox}
+use Rattle.table.specs.Table.{mailboxRoom, held}
+
+-- ---- reading: what is not there reads as 0
+
+abbrev pub noMessage : Message
+noMessage = record { label = 0; sender = 0; value = 0 }
+
+abbrev pub noTask : Task
+noTask = record { kind = 0; label = 0; spare = 0; pc = 0; registers = []; mailbox = [] }
+
+abbrev pub taskOr : Slot → Task
+taskOr unused = noTask
+taskOr (used t) = t
+
+-- the task in slot s, and message i of its mailbox
+abbrev pub taskAt : List Slot → ℕ → Task
+taskAt ss s = taskOr (slotAt ss s)
+
+abbrev pub messageAt : List Slot → ℕ → ℕ → Message
+messageAt ss s i = getD (taskAt ss s .mailbox) i noMessage
+
+-- ---- changing: what is not there stays so
+
+abbrev pub changeSlot : (Task → Task) → Slot → Slot
+changeSlot f unused = unused
+changeSlot f (used t) = used (f t)
+
+-- f of the task in slot s
+abbrev pub change : ℕ → (Task → Task) → List Slot → List Slot
+change s f ss = set ss s (changeSlot f (slotAt ss s))
+
+-- kind 0 takes the task away
+abbrev pub slotWithKind : ℕ → Slot → Slot
+slotWithKind k unused = unused
+slotWithKind k (used t) = held (withKind k t)
+
+-- the message joins the end of a mailbox that has room
+abbrev pub withMessage : Message → Task → Task
+withMessage m t = withMailbox (take mailboxRoom (t .mailbox ++ (m ∷ []))) t
+
+-- message i becomes the one behind it
+abbrev pub withMoved : ℕ → Task → Task
+withMoved i t = withMailbox (set (t .mailbox) i (getD (t .mailbox) (i + 1) noMessage)) t
+
+-- the first n messages stay
+abbrev pub truncated : ℕ → Task → Task
+truncated n t = withMailbox (take n (t .mailbox)) t
+
+-- message i goes
+abbrev pub withoutMessage : ℕ → Task → Task
+withoutMessage i t = withMailbox (without i (t .mailbox)) t
+
+-- a task with registers 0 and no messages
+abbrev pub newTask : ℕ → ℕ → ℕ → ℕ → Task
+newTask kind label spare pc =
+    record { kind = kind; label = label; spare = spare; pc = pc; registers = replicate 8 0; mailbox = [] }

@@ -1,0 +1,27 @@
+-- What the table's private functions read of a slot's words and change in them.
+use Prim.Native.Nat.{ℕ, _+_, _%_, _<_}
+use mathlib.Core.Path.{_≡_}
+use mathlib.Core.Logic.{_≢_}
+use mathlib.Core.Bool.{cond}
+use mathlib.Core.List.{List, _++_}
+use lib.Dec.{eqb}
+use lib.ListN.{getD, drop, set, replicate}
+use Rattle.machine.specs.State.{Message}
+use Rattle.table.specs.Table.{kindWord, labelsWord, sendersWord, valuesWord, window}
+
+-- word i, 0 in an unused slot
+abbrev pub fieldWord : List ℕ → ℕ → ℕ
+fieldWord w i = cond (eqb (getD w kindWord 0 % 256) 0) 0 (getD w i 0)
+
+-- u is the table t with f of the words of slot s
+pub record Rewrite (s : ℕ) (f : List ℕ → List ℕ) (t u : List ℕ) : Type 0 where
+  pub here : s < 16 → window u s ≡ f (window t s)
+  pub other : (j : ℕ) → j ≢ s → window u j ≡ window t j
+
+-- the words with m as message i
+unfoldable pub storeMessage : ℕ → Message → List ℕ → List ℕ
+storeMessage i m w = set (set (set w (labelsWord + i) (m .label)) (sendersWord + i) (m .sender)) (valuesWord + i) (m .value)
+
+-- the words with 0 for the first n
+abbrev pub cleared : ℕ → List ℕ → List ℕ
+cleared n w = replicate n 0 ++ drop n w

@@ -1,0 +1,299 @@
+// The working storage of a call: sixteen slots of 208 words each, lent to the call and touched by slot and field only.
+// What is not there, a slot above 15, a field of an unused slot or a message past the last, reads as 0 and stays so.
+ghost use Prim.Native.Nat.{_<_, _≤_, _*_, min};
+ghost use mathlib.Core.Path.{_≡_};
+ghost use lib.ListN.{length, getD, set};
+ghost use Rattle.machine.specs.State.{unused, slotAt, register, withLabel, withSpare, withPc, withRegister};
+ghost use Rattle.table.specs.Table.{window, slotsIn, held};
+ghost use Rattle.table.specs.Words.{fieldWord, Rewrite, storeMessage, cleared};
+ghost use Rattle.table.specs.Change.{taskAt, messageAt, change, slotWithKind, withMoved, truncated, withMessage, withoutMessage, newTask};
+
+const SLOTS: usize = 16;
+
+const SLOT_WORDS: usize = 208;
+
+const MAILBOX_ROOM: usize = 64;
+
+// A slot's words: one for each field, and behind them a column of 64 for each field of the messages.
+const KIND: usize = 0;
+
+const LABEL: usize = 1;
+
+const SPARE: usize = 2;
+
+const PC: usize = 3;
+
+const REGISTERS: usize = 4;
+
+const COUNT: usize = 12;
+
+const LABELS: usize = 16;
+
+const SENDERS: usize = 80;
+
+const VALUES: usize = 144;
+
+// ---- words
+
+// The word at an index of the table, which is known to be 3,328 words long where it is passed on as a slice.
+fn fetch(t: &[u32], at: usize) -> u32
+    ensures { λ r. ⌜ r ≡ getD (now (t .entry)) at 0 ⌝ }
+{
+    if at < t.len() { t[at] } else { 0 }
+}
+
+// The word at an index gets x.
+fn store(t: &mut [u32], at: usize, x: u32)
+    ensures { λ _. ⌜ now (t .exit) ≡ set (now (t .entry)) at x ⌝ }
+{
+    if at < t.len() {
+        t[at] = x;
+    }
+}
+
+// The first word of slot s; the table's end where there is no slot s.
+fn start(s: usize) -> usize
+    ensures { λ r. ⌜ r ≡ min s 16 * 208 ⌝ }
+{
+    if s < SLOTS {
+        s * SLOT_WORDS
+    } else {
+        SLOTS * SLOT_WORDS
+    }
+}
+
+// Word i of slot s.
+fn word(t: &[u32; 3328], s: usize, i: usize) -> u32
+    requires { ⌜ i < 208 ⌝ }
+    ensures { λ r. ⌜ (length (now (t .entry)) ≡ 3328) × (r ≡ getD (window (now (t .entry)) s) i 0) ⌝ }
+{
+    fetch(t, start(s) + i)
+}
+
+// Word i of slot s gets x.
+fn put(t: &mut [u32; 3328], s: usize, i: usize, x: u32)
+    requires { ⌜ i < 208 ⌝ }
+    ensures { λ _. ⌜ (length (now (t .entry)) ≡ 3328) × Rewrite s (λ w. set w i x) (now (t .entry)) (now (t .exit)) ⌝ }
+{
+    store(t, start(s) + i, x);
+}
+
+// Word i of slot s, 0 where slot s is unused: a slot is used where its kind is not 0.
+fn field(t: &[u32; 3328], s: usize, i: usize) -> u32
+    requires { ⌜ i < 208 ⌝ }
+    ensures { λ r. ⌜ (length (now (t .entry)) ≡ 3328) × (r ≡ fieldWord (window (now (t .entry)) s) i) ⌝ }
+{
+    if word(t, s, KIND) % 256 == 0 {
+        0
+    } else {
+        word(t, s, i)
+    }
+}
+
+// ---- reading
+
+// The kind of the task in slot s, 0 where slot s is unused.
+pub fn kind(t: &[u32; 3328], s: usize) -> u8
+    ensures { λ r. ⌜ r ≡ taskAt (slotsIn (now (t .entry))) s .kind ⌝ }
+{
+    (field(t, s, KIND) % 256) as u8
+}
+
+// The label of the task in slot s.
+pub fn label(t: &[u32; 3328], s: usize) -> u8
+    ensures { λ r. ⌜ r ≡ taskAt (slotsIn (now (t .entry))) s .label ⌝ }
+{
+    (field(t, s, LABEL) % 256) as u8
+}
+
+// The spare slots that the task in slot s has a right to.
+pub fn spare(t: &[u32; 3328], s: usize) -> u8
+    ensures { λ r. ⌜ r ≡ taskAt (slotsIn (now (t .entry))) s .spare ⌝ }
+{
+    (field(t, s, SPARE) % 256) as u8
+}
+
+// The index of the next instruction of the task in slot s.
+pub fn pc(t: &[u32; 3328], s: usize) -> u32
+    ensures { λ r. ⌜ r ≡ taskAt (slotsIn (now (t .entry))) s .pc ⌝ }
+{
+    field(t, s, PC)
+}
+
+// Register a of the task in slot s; there is none above 7.
+pub fn register(t: &[u32; 3328], s: usize, a: usize) -> u32
+    ensures { λ r. ⌜ r ≡ register (taskAt (slotsIn (now (t .entry))) s) a ⌝ }
+{
+    if a < 8 { field(t, s, REGISTERS + a) } else { 0 }
+}
+
+// How many messages are in the mailbox of the task in slot s.
+pub fn mailbox_length(t: &[u32; 3328], s: usize) -> usize
+    ensures { λ r. ⌜ (r ≡ length (taskAt (slotsIn (now (t .entry))) s .mailbox)) × (r ≤ 64) ⌝ }
+{
+    let n = field(t, s, COUNT) as usize;
+    if n < MAILBOX_ROOM { n } else { MAILBOX_ROOM }
+}
+
+// The label of message i in slot s, the oldest first.
+pub fn message_label(t: &[u32; 3328], s: usize, i: usize) -> u8
+    ensures { λ r. ⌜ r ≡ messageAt (slotsIn (now (t .entry))) s i .label ⌝ }
+{
+    if i < mailbox_length(t, s) {
+        (word(t, s, LABELS + i) % 256) as u8
+    } else {
+        0
+    }
+}
+
+// The slot that sent message i in slot s.
+pub fn message_sender(t: &[u32; 3328], s: usize, i: usize) -> u8
+    ensures { λ r. ⌜ r ≡ messageAt (slotsIn (now (t .entry))) s i .sender ⌝ }
+{
+    if i < mailbox_length(t, s) {
+        (word(t, s, SENDERS + i) % 256) as u8
+    } else {
+        0
+    }
+}
+
+// The value of message i in slot s.
+pub fn message_value(t: &[u32; 3328], s: usize, i: usize) -> u32
+    ensures { λ r. ⌜ r ≡ messageAt (slotsIn (now (t .entry))) s i .value ⌝ }
+{
+    if i < mailbox_length(t, s) {
+        word(t, s, VALUES + i)
+    } else {
+        0
+    }
+}
+
+// ---- changing a field
+
+// The task in slot s gets kind x; kind 0 takes it away.
+pub fn set_kind(t: &mut [u32; 3328], s: usize, x: u8)
+    ensures { λ _. ⌜ slotsIn (now (t .exit)) ≡ set (slotsIn (now (t .entry))) s (slotWithKind x (slotAt (slotsIn (now (t .entry))) s)) ⌝ }
+{
+    if kind(t, s) > 0 {
+        put(t, s, KIND, x as u32);
+    }
+}
+
+// The task in slot s gets label x.
+pub fn set_label(t: &mut [u32; 3328], s: usize, x: u8)
+    ensures { λ _. ⌜ slotsIn (now (t .exit)) ≡ change s (withLabel x) (slotsIn (now (t .entry))) ⌝ }
+{
+    put(t, s, LABEL, x as u32);
+}
+
+// The task in slot s gets a right to x spare slots.
+pub fn set_spare(t: &mut [u32; 3328], s: usize, x: u8)
+    ensures { λ _. ⌜ slotsIn (now (t .exit)) ≡ change s (withSpare x) (slotsIn (now (t .entry))) ⌝ }
+{
+    put(t, s, SPARE, x as u32);
+}
+
+// The next instruction of the task in slot s is that at index x.
+pub fn set_pc(t: &mut [u32; 3328], s: usize, x: u32)
+    ensures { λ _. ⌜ slotsIn (now (t .exit)) ≡ change s (withPc x) (slotsIn (now (t .entry))) ⌝ }
+{
+    put(t, s, PC, x);
+}
+
+// Register a of the task in slot s gets x; there is none above 7.
+pub fn set_register(t: &mut [u32; 3328], s: usize, a: usize, x: u32)
+    ensures { λ _. ⌜ slotsIn (now (t .exit)) ≡ change s (withRegister a x) (slotsIn (now (t .entry))) ⌝ }
+{
+    if a < 8 {
+        put(t, s, REGISTERS + a, x);
+    }
+}
+
+// ---- changing the mailbox
+
+// Message i of slot s is written, also where the mailbox ends before it.
+fn store_message(t: &mut [u32; 3328], s: usize, i: usize, label: u8, sender: u8, value: u32)
+    requires { ⌜ i < 64 ⌝ }
+    ensures { λ _. ⌜ (length (now (t .entry)) ≡ 3328) × Rewrite s (storeMessage i (record { label = label; sender = sender; value = value })) (now (t .entry)) (now (t .exit)) ⌝ }
+{
+    put(t, s, LABELS + i, label as u32);
+    put(t, s, SENDERS + i, sender as u32);
+    put(t, s, VALUES + i, value);
+}
+
+// The message joins the end of the mailbox; one of 64 messages has no room for it and stays as it was.
+pub fn append(t: &mut [u32; 3328], s: usize, label: u8, sender: u8, value: u32)
+    ensures { λ _. ⌜ slotsIn (now (t .exit)) ≡ change s (withMessage (record { label = label; sender = sender; value = value })) (slotsIn (now (t .entry))) ⌝ }
+{
+    let n = mailbox_length(t, s);
+    if n < MAILBOX_ROOM {
+        store_message(t, s, n, label, sender, value);
+        put(t, s, COUNT, (n + 1) as u32);
+    }
+}
+
+// Message i in slot s becomes the one behind it.
+fn move_up(t: &mut [u32; 3328], s: usize, i: usize)
+    requires { ⌜ i < 64 ⌝ }
+    ensures { λ _. ⌜ slotsIn (now (t .exit)) ≡ change s (withMoved i) (slotsIn (now (t .entry))) ⌝ }
+{
+    let label = message_label(t, s, i + 1);
+    let sender = message_sender(t, s, i + 1);
+    let value = message_value(t, s, i + 1);
+    store_message(t, s, i, label, sender, value);
+}
+
+// The first n messages in slot s stay.
+fn truncate(t: &mut [u32; 3328], s: usize, n: usize)
+    ensures { λ _. ⌜ slotsIn (now (t .exit)) ≡ change s (truncated n) (slotsIn (now (t .entry))) ⌝ }
+{
+    if n < mailbox_length(t, s) {
+        put(t, s, COUNT, n as u32);
+    }
+}
+
+// Message i goes, and those behind it move up.
+pub fn remove(t: &mut [u32; 3328], s: usize, i: usize)
+    ensures { λ _. ⌜ slotsIn (now (t .exit)) ≡ change s (withoutMessage i) (slotsIn (now (t .entry))) ⌝ }
+{
+    let n = mailbox_length(t, s);
+    if i < n {
+        let mut j = i;
+        while j + 1 < n {
+            move_up(t, s, j);
+            j += 1;
+        }
+        truncate(t, s, n - 1);
+    }
+}
+
+// ---- changing a slot
+
+// Slot s becomes unused.
+pub fn clear(t: &mut [u32; 3328], s: usize)
+    ensures { λ _. ⌜ slotsIn (now (t .exit)) ≡ set (slotsIn (now (t .entry))) s unused ⌝ }
+{
+    put(t, s, KIND, 0);
+}
+
+// Every word of slot s ahead of its messages becomes 0.
+fn clear_fields(t: &mut [u32; 3328], s: usize)
+    ensures { λ _. ⌜ Rewrite s (cleared 16) (now (t .entry)) (now (t .exit)) ⌝ }
+{
+    let mut i = 0;
+    while i < LABELS {
+        put(t, s, i, 0);
+        i += 1;
+    }
+}
+
+// Slot s holds a new task, with registers 0 and no messages, and no other; kind 0 is none.
+pub fn put_task(t: &mut [u32; 3328], s: usize, kind: u8, label: u8, spare: u8, pc: u32)
+    ensures { λ _. ⌜ slotsIn (now (t .exit)) ≡ set (slotsIn (now (t .entry))) s (held (newTask kind label spare pc)) ⌝ }
+{
+    clear_fields(t, s);
+    put(t, s, KIND, kind as u32);
+    put(t, s, LABEL, label as u32);
+    put(t, s, SPARE, spare as u32);
+    put(t, s, PC, pc);
+}
