@@ -1,0 +1,3 @@
+-- The laws of the crate `snapshot`, a file each.
+pub mod Loading
+pub mod Writing

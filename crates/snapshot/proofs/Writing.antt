@@ -1,0 +1,100 @@
+-- The parts of a view: what is written of a message, a task and a slot, and how long it is.
+use Prim.Native.Nat.{ℕ, _+_, _≤_}
+use mathlib.Core.Logic.{_≢_}
+use mathlib.Core.Path.{_≡_, refl, sym, ap, _∙_}
+use mathlib.Core.Bool.{true, false, not, _&&_}
+use mathlib.Core.List.{List, [], _∷_, _++_, map}
+use native.Mathlib.Omega.{arith}
+use borrow.Author.Tests.{ne-eqb}
+use lib.Dec.{eqb}
+use lib.ListN.{length, length-append}
+use lib.Seq.{append-snoc}
+use Rattle.label.specs.Label.{flows}
+use Rattle.wire.specs.Lists.{keep}
+use Rattle.wire.specs.Numbers.{encodeNumber}
+use Rattle.wire.specs.Items.{encodeItems}
+use Rattle.wire.proofs.Numbers.{length-encode}
+use Rattle.wire.proofs.Items.{items-map, items-keep, length-items}
+use Rattle.machine.specs.State.{Message, Task, Slot, unused, used}
+use Rattle.machine.specs.View.{viewSlot, view}
+use Rattle.image.specs.Record.{messageBytes}
+use Rattle.image.specs.Image.{programOf, slotBytes, slotsBytes, imageBytes}
+use Rattle.table.specs.Table.{slotsIn}
+use Rattle.table.specs.Change.{taskOr}
+use Rattle.snapshot.specs.Writing.{snapshotBytes, headBytes, shownSlot, shownTask, shownMessage, isShown}
+
+-- ---- a message
+
+pub message-shown : (v : ℕ) (m : Message) → flows (m .label) v ≡ true → shownMessage v m ≡ messageBytes m
+unfolding shownMessage
+message-shown v m e = rw e
+
+pub message-hidden : (v : ℕ) (m : Message) → flows (m .label) v ≡ false → shownMessage v m ≡ []
+unfolding shownMessage
+message-hidden v m e = rw e
+
+-- ---- a task: its record's length, its fields, its registers and its messages
+
+module _ (v : ℕ) (t : Task) (eight : length (t .registers) ≡ 8) where
+  abbrev registers : List ℕ
+  registers = encodeItems (encodeNumber 4) (t .registers)
+
+  abbrev mailbox : List ℕ
+  mailbox = encodeItems (shownMessage v) (t .mailbox)
+
+  mailbox-shown : encodeItems messageBytes (keep (λ m. flows (m .label) v) (t .mailbox)) ≡ mailbox
+  unfolding shownMessage
+  mailbox-shown = items-keep messageBytes (λ m. flows (m .label) v) (t .mailbox)
+
+  record-length : length (registers ++ mailbox) ≡ 32 + length mailbox
+  record-length = omega (arith, length-append registers mailbox, length-items (encodeNumber 4) 4 (length-encode 4) (t .registers))
+
+  pub task-shown : shownTask v t ≡ encodeNumber 2 (37 + length mailbox) ++ (t .kind ∷ t .label ∷ t .spare ∷ encodeNumber 2 (t .pc)) ++ registers ++ mailbox
+  unfolding shownTask
+  task-shown =
+      let size : length ((t .kind ∷ t .label ∷ t .spare ∷ encodeNumber 2 (t .pc)) ++ registers ++ mailbox) ≡ 37 + length mailbox = omega (arith, record-length) in
+      rw mailbox-shown (ap (λ (n : ℕ). encodeNumber 2 n ++ (t .kind ∷ t .label ∷ t .spare ∷ encodeNumber 2 (t .pc)) ++ registers ++ mailbox) size)
+
+  pub task-length : length (shownTask v t) ≡ 39 + length mailbox
+  task-length = rw task-shown (omega (arith, record-length))
+
+-- ---- a slot
+
+-- the test in the code
+pub shown-is : (x : Slot) (kind label v : ℕ) → kind ≡ taskOr x .kind → label ≡ taskOr x .label → ((t : Task) → x ≡ used t → t .kind ≢ 0)
+    → (not (eqb kind 0) && flows label v) ≡ isShown v x
+unfolding isShown
+shown-is unused kind label v k l h = rw k
+shown-is (used t) kind label v k l h = rw (k, l, ne-eqb (t .kind) 0 (h t refl))
+
+pub shown-used : (v : ℕ) (x : Slot) → isShown v x ≡ true → x ≡ used (taskOr x)
+unfolding isShown
+shown-used v unused e = cc
+shown-used v (used t) e = refl
+
+pub slot-shown : (v : ℕ) (x : Slot) → isShown v x ≡ true → shownSlot v x ≡ shownTask v (taskOr x)
+unfolding isShown shownSlot shownTask
+slot-shown v unused e = cc
+slot-shown v (used t) e = rw e
+
+pub slot-hidden : (v : ℕ) (x : Slot) → isShown v x ≡ false → shownSlot v x ≡ 0 ∷ 0 ∷ []
+unfolding isShown shownSlot
+slot-hidden v unused e = refl
+slot-hidden v (used t) e = rw e
+
+-- ---- the whole
+
+pub head-length : (program : List ℕ) (turn : ℕ) → length (headBytes program turn) ≡ 3 + length program + 1
+unfolding headBytes
+head-length program turn = omega (arith, length-append program (turn ∷ []))
+
+pub snapshot-parts : (words image : List ℕ) (turn v : ℕ) → snapshotBytes words image turn v ≡ headBytes (programOf image) turn ++ encodeItems (shownSlot v) (slotsIn words)
+unfolding snapshotBytes headBytes shownSlot view imageBytes
+snapshot-parts words image turn v =
+    let front = 1 ∷ encodeNumber 2 (length (programOf image)) ++ programOf image in
+    ap (λ (r : List ℕ). front ++ turn ∷ r) (items-map slotBytes (viewSlot (λ l. flows l v)) (slotsIn words))
+    ∙ sym (append-snoc front turn (encodeItems (λ x. slotBytes (viewSlot (λ l. flows l v) x)) (slotsIn words)))
+
+pub snapshot-length : (words image : List ℕ) (turn v : ℕ) → length (snapshotBytes words image turn v) ≡ 3 + length (programOf image) + 1 + length (encodeItems (shownSlot v) (slotsIn words))
+snapshot-length words image turn v =
+    rw (snapshot-parts words image turn v, length-append, head-length (programOf image) turn)

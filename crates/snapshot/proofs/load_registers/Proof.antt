@@ -1,0 +1,49 @@
+-- `snapshot::load_registers` meets its contract: the first a registers are set.
+use Prim.Native.Nat.{ℕ, _≤_, _-_, _*_, _/_}
+use mathlib.Core.Path.{_≡_, sym, ap, _∙_}
+use native.Mathlib.Omega.{arith}
+use denote.Ref.{now}
+use lib.ListN.{drop}
+use Rattle.wire.specs.Numbers.{decodeNumber}
+use Rattle.machine.specs.State.{withRegister}
+use Rattle.table.specs.Table.{slotsIn}
+use Rattle.table.specs.Change.{change}
+use Rattle.snapshot.specs.Loading.{registersSet}
+use Rattle.snapshot.proofs.Loading.{registers-none, registers-next}
+use Rattle.snapshot.proofs.load_registers.Statement.{statement}
+use Rattle.snapshot.proofs.load_registers.Tie as tie
+
+abbrev Inv-loop : tie.InvT-loop
+Inv-loop table₀ slot registers a₀ table a = (a ≤ 8) × (slotsIn table ≡ change slot (registersSet a registers) (slotsIn table₀))
+
+abbrev μ-loop : tie.MeasureT-loop
+μ-loop table₀ slot registers a₀ table a = 8 - a
+
+loop-again : tie.Need-loop-again Inv-loop μ-loop
+loop-again c =
+    let h = c .before .before .before .before .before .loop in
+    let a = c .before .before .before .before .before .before .before .args in
+    let x = c .before .before .decode-u32 .result in
+    let e : x ≡ decodeNumber 4 (drop (4 * h .a) (now (a .registers))) = rw (c .before .before .before .drop .ensures) at (c .before .before .decode-u32 .ensures) in
+    (omega arith, c .set-register .ensures ∙ ap (change (a .slot) (withRegister (h .a) x)) (h .inv .1) ∙ registers-next (a .slot) (h .a) x (now (a .registers)) (slotsIn (now (a .table))) e)
+
+returns : tie.Need-returns Inv-loop μ-loop
+returns c =
+    let a : c .before .loop .a ≡ 8 = omega arith in
+    rw a at (c .before .loop .inv .1)
+
+pub load-registers-spec : {M : Type 1} → statement M
+load-registers-spec =
+    tie.close
+    (tie.spec
+    Inv-loop
+    μ-loop
+    (λ c. (omega arith, registers-none _ _ _))
+    (λ c. omega arith)
+    (λ c κs. tt)
+    (λ c κs. tt)
+    (λ c κs. tt)
+    (λ c. omega arith)
+    (λ c. omega arith)
+    loop-again
+    returns)

@@ -1,0 +1,32 @@
+-- `snapshot::slot_length` meets its contract: a task that the observer sees has a record, and no other.
+use Prim.Native.Nat.{ℕ, _+_}
+use mathlib.Core.Path.{_≡_, sym, ap, _∙_}
+use native.Mathlib.Omega.{arith}
+use denote.Ref.{now}
+use lib.ListN.{length}
+use Rattle.machine.specs.State.{slotAt}
+use Rattle.table.specs.Table.{slotsIn}
+use Rattle.table.specs.Change.{taskAt}
+use Rattle.table.proofs.Slots.{used-registers}
+use Rattle.snapshot.proofs.Writing.{task-length, shown-used, slot-shown, slot-hidden}
+use Rattle.snapshot.proofs.slot_length.Statement.{statement}
+use Rattle.snapshot.proofs.slot_length.Tie as tie
+
+returns : tie.Need-returns
+returns c =
+    let a = c .before .before .before .args in
+    let words = now (a .table) in
+    let x = slotAt (slotsIn words) (a .slot) in
+    let shown = sym (c .before .before .is-shown .ensures) ∙ c .before .if1 .taken in
+    let eight = used-registers words (a .slot) (taskAt (slotsIn words) (a .slot)) (shown-used (a .observer) x shown) in
+    let size = ap length (slot-shown (a .observer) x shown) ∙ task-length (a .observer) (taskAt (slotsIn words) (a .slot)) eight in
+    (ap (λ (n : ℕ). 39 + n) (c .mailbox-length .ensures .0) ∙ sym size, omega arith)
+
+returns-2 : tie.Need-returns-2
+returns-2 c =
+    let a = c .before .before .args in
+    let hidden = sym (c .before .is-shown .ensures) ∙ c .if1 .left in
+    (sym (ap length (slot-hidden (a .observer) (slotAt (slotsIn (now (a .table))) (a .slot)) hidden)), omega arith)
+
+pub slot-length-spec : {M : Type 1} → statement M
+slot-length-spec = tie.close (tie.spec (λ c κs. tt) (λ c κs. tt) (λ c. omega arith) returns returns-2)

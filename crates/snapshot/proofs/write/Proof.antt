@@ -1,0 +1,56 @@
+-- `snapshot::write` meets its contract: what stands ahead of the slots, and the slots behind it.
+use borrow.Author.Needs.{needs}
+use Prim.Native.Nat.{ℕ, _+_, _≤_}
+use mathlib.Core.Path.{_≡_, sym, ap, _∙_}
+use mathlib.Core.List.{List}
+use native.Mathlib.Omega.{arith}
+use denote.Ref.{now}
+use lib.ListN.{length}
+use Rattle.wire.specs.Items.{encodeItems}
+use Rattle.wire.proofs.Output.{written-fits, written-short, lent}
+use Rattle.image.specs.Image.{programOf}
+use Rattle.table.specs.Table.{slotsIn}
+use Rattle.snapshot.specs.Writing.{snapshotBytes, headBytes, shownSlot}
+use Rattle.snapshot.proofs.Writing.{head-length, snapshot-parts, snapshot-length}
+use Rattle.snapshot.proofs.write.Statement.{statement}
+use Rattle.snapshot.proofs.write.Tie as tie
+
+returns : tie.Need-returns
+returns c =
+    let a = c .before .before .before .before .before .args in
+    let bytes = snapshotBytes (now (a .table)) (now (a .image)) (a .turn) (a .observer) in
+    let size = snapshot-length (now (a .table)) (now (a .image)) (a .turn) (a .observer) in
+    let program = ap length (c .before .before .program .ensures) in
+    (omega (arith, size, program, c .before .slots-length .ensures .0), sym (written-short bytes (now (a .out)) (omega (arith, size, program, c .before .slots-length .ensures .0))))
+
+returns-2 : tie.Need-returns-2
+returns-2 c =
+    let b = c .before .before .before .before .before .before .before .before .before in
+    let a = b .before .before .before .before .args in
+    let words = now (a .table) in
+    let image = now (a .image) in
+    let bytes = snapshotBytes words image (a .turn) (a .observer) in
+    let size = snapshot-length words image (a .turn) (a .observer) in
+    let program = b .before .program .ensures in
+    let head = rw program at (c .before .before .before .before .before .before .write-head .ensures) in
+    let whole = lent (headBytes (programOf image) (a .turn)) (encodeItems (shownSlot (a .observer)) (slotsIn words)) (now (a .out)) _ (head-length (programOf image) (a .turn) ∙ ap (λ (l : List ℕ). 3 + length l + 1) (sym program)) head (c .before .before .write-slots .ensures) in
+    let room : length bytes ≤ length (now (a .out)) = omega (arith, size, ap length program, b .slots-length .ensures .0) in
+    (omega (arith, size, ap length program, b .slots-length .ensures .0), whole ∙ rw (← snapshot-parts words image (a .turn) (a .observer)) (sym (written-fits bytes (now (a .out)) room)))
+
+pub write-spec : {M : Type 1} → statement M
+write-spec =
+    tie.close
+    (tie.spec
+    (λ c κs. tt)
+    (λ c. search needs)
+    (λ c. search needs)
+    (λ c κs. tt)
+    (λ c. search needs)
+    returns
+    (λ c κs. search needs)
+    (λ c. search needs)
+    (λ c. search needs)
+    (λ c. search needs)
+    (λ c κs. search needs)
+    (λ c. search needs)
+    returns-2)

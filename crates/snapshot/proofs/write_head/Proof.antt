@@ -1,0 +1,47 @@
+-- `snapshot::write_head` meets its contract: each part behind those before.
+use borrow.Author.Needs.{needs}
+use Prim.Native.Nat.{_+_, _≤_}
+use mathlib.Core.Path.{_≡_, refl, _∙_}
+use mathlib.Core.List.{[], _∷_, _++_}
+use native.Mathlib.Omega.{arith}
+use denote.Ref.{now}
+use lib.ListN.{length, length-append}
+use Rattle.wire.specs.Numbers.{encodeNumber}
+use Rattle.wire.proofs.Output.{written-fits, lent-fits}
+use Rattle.snapshot.specs.Writing.{headBytes}
+use Rattle.snapshot.proofs.write_head.Statement.{statement}
+use Rattle.snapshot.proofs.write_head.Tie as tie
+
+returns : tie.Need-returns
+unfolding headBytes
+returns c =
+    let s = c .before .before .before .before .before .before .before .before .before .before .before .before .before .before .before .before .before .before in
+    let program = now (s .args .program) in
+    let out = now (s .args .out) in
+    let room : 3 + length program + 1 ≤ length out = s .pre in
+    let size = encodeNumber 2 (length program) in
+    let version = c .before .before .before .before .before .before .before .before .before .before .before .before .before .before .put-byte .ensures ∙ written-fits (1 ∷ []) out (omega arith) in
+    let sized = lent-fits (1 ∷ []) size out 1 refl (omega arith) version (c .before .before .before .before .before .before .before .before .before .before .encode-u16 .ensures) in
+    let copied = lent-fits (1 ∷ size) program out 3 refl (omega arith) sized (c .before .before .before .before .before .before .copy .ensures) in
+    lent-fits (1 ∷ size ++ program) (s .args .turn ∷ []) out (3 + length program) (omega arith) (omega (arith, length-append program (s .args .turn ∷ []))) copied (c .before .before .put-byte2 .ensures)
+
+pub write-head-spec : {M : Type 1} → statement M
+write-head-spec =
+    tie.close
+    (tie.spec
+    (λ c κs. tt)
+    (λ c. search needs)
+    (λ c. search needs)
+    (λ c. search needs)
+    (λ c κs. tt)
+    (λ c. search needs)
+    (λ c. search needs)
+    (λ c. search needs)
+    (λ c κs. tt)
+    (λ c. search needs)
+    (λ c. search needs)
+    (λ c. search needs)
+    (λ c. search needs)
+    (λ c κs. tt)
+    (λ c. search needs)
+    returns)

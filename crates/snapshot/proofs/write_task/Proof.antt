@@ -1,0 +1,58 @@
+-- `snapshot::write_task` meets its contract: each part behind those before.
+use borrow.Author.Needs.{needs}
+use Prim.Native.Nat.{ℕ, _+_}
+use mathlib.Core.Path.{_≡_, refl, sym, ap, _∙_}
+use mathlib.Core.List.{_∷_, _++_}
+use native.Mathlib.Omega.{arith}
+use denote.Ref.{now}
+use lib.ListN.{length, length-append}
+use Rattle.wire.specs.Numbers.{encodeNumber}
+use Rattle.wire.specs.Items.{encodeItems}
+use Rattle.wire.proofs.Numbers.{length-encode}
+use Rattle.wire.proofs.Items.{length-items}
+use Rattle.wire.proofs.Output.{lent}
+use Rattle.table.specs.Table.{slotsIn}
+use Rattle.table.specs.Change.{taskAt}
+use Rattle.snapshot.specs.Writing.{shownMessage}
+use Rattle.snapshot.proofs.Writing.{task-shown, task-length}
+use Rattle.snapshot.proofs.write_task.Statement.{statement}
+use Rattle.snapshot.proofs.write_task.Tie as tie
+
+returns : tie.Need-returns
+returns c =
+    let f = c .before .before .before .before .before .before .before .before .before .before in
+    let s = f .before .before .before .before .before .before .before .before in
+    let out = now (s .args .out) in
+    let t = taskAt (slotsIn (now (s .args .table))) (s .args .slot) in
+    let mailbox = encodeItems (shownMessage (s .args .observer)) (t .mailbox) in
+    let registers = encodeItems (encodeNumber 4) (t .registers) in
+    let fields = encodeNumber 2 (37 + length mailbox) ++ t .kind ∷ t .label ∷ t .spare ∷ encodeNumber 2 (t .pc) in
+    let size = f .before .before .before .before .before .before .mailbox-length .ensures .0 in
+    let first = rw (size, f .before .before .before .before .before .kind .ensures, f .before .before .before .before .label .ensures, f .before .before .before .spare .ensures, f .before .before .pc .ensures) at (f .write-fields .ensures) in
+    let second = lent fields registers out 7 refl first (c .before .before .before .before .before .before .write-registers .ensures) in
+    let long : length (fields ++ registers) ≡ 39 = omega (arith, length-items (encodeNumber 4) 4 (length-encode 4) (t .registers), s .pre .0) in
+    let third = lent (fields ++ registers) mailbox out 39 long second (c .before .before .write-mailbox .ensures) in
+    (ap (λ (n : ℕ). 39 + n) size ∙ sym (task-length (s .args .observer) t (s .pre .0)), omega arith, rw (task-shown (s .args .observer) t (s .pre .0)) third)
+
+pub write-task-spec : {M : Type 1} → statement M
+write-task-spec =
+    tie.close
+    (tie.spec
+    (λ c κs. tt)
+    (λ c κs. tt)
+    (λ c κs. tt)
+    (λ c κs. tt)
+    (λ c κs. tt)
+    (λ c. search needs)
+    (λ c κs. search needs)
+    (λ c. search needs)
+    (λ c. search needs)
+    (λ c. search needs)
+    (λ c κs. search needs)
+    (λ c. search needs)
+    (λ c. search needs)
+    (λ c. search needs)
+    (λ c κs. search needs)
+    (λ c. search needs)
+    (λ c. search needs)
+    returns)

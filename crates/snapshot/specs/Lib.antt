@@ -1,0 +1,3 @@
+-- The definitions of the crate `snapshot`, a file each.
+pub mod Loading
+pub mod Writing

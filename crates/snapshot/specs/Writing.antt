@@ -1,0 +1,43 @@
+-- The bytes that are written of the table for an observer, and of each part of it.
+use Prim.Native.Nat.{ℕ}
+use mathlib.Core.Bool.{Bool, false, cond}
+use mathlib.Core.List.{List, [], _∷_, _++_}
+use lib.ListN.{length}
+use Rattle.wire.specs.Numbers.{encodeNumber}
+use Rattle.label.specs.Label.{flows}
+use Rattle.machine.specs.State.{Message, Task, Slot, unused, used, State}
+use Rattle.machine.specs.View.{viewTask, viewSlot}
+use Rattle.machine.specs.Machine.{view}
+use Rattle.image.specs.Record.{messageBytes}
+use Rattle.image.specs.Image.{programOf, slotBytes, imageBytes}
+use Rattle.table.specs.Table.{slotsIn}
+
+-- the tasks in the table, with the image's program and a turn slot
+abbrev pub stateIn : List ℕ → List ℕ → ℕ → State
+stateIn words image turnSlot = record { program = programOf image; turnSlot = turnSlot; slots = slotsIn words }
+
+-- the image of these tasks in the view for label v
+unfoldable pub snapshotBytes : List ℕ → List ℕ → ℕ → ℕ → List ℕ
+snapshotBytes words image turnSlot v = imageBytes (view v (stateIn words image turnSlot))
+
+-- ---- its parts
+
+-- what stands ahead of the slots
+unfoldable pub headBytes : List ℕ → ℕ → List ℕ
+headBytes program turnSlot = 1 ∷ encodeNumber 2 (length program) ++ program ++ (turnSlot ∷ [])
+
+-- a slot in the view, and a task that is in it
+unfoldable pub shownSlot : ℕ → Slot → List ℕ
+shownSlot v x = slotBytes (viewSlot (λ l. flows l v) x)
+
+unfoldable pub shownTask : ℕ → Task → List ℕ
+shownTask v t = slotBytes (used (viewTask (λ l. flows l v) t))
+
+-- a message: no bytes where it is left out
+unfoldable pub shownMessage : ℕ → Message → List ℕ
+shownMessage v m = cond (flows (m .label) v) (messageBytes m) []
+
+-- whether the view has a task in the slot
+unfoldable pub isShown : ℕ → Slot → Bool
+isShown v unused = false
+isShown v (used t) = flows (t .label) v

@@ -1,0 +1,299 @@
+// Snapshots: an image's tasks loaded into the table, and the table written as an image for an observer.
+ghost use Prim.Native.Nat.{_+_, _/_, _≤_};
+ghost use mathlib.Core.Path.{_≡_};
+ghost use mathlib.Core.List.{_∷_, _++_};
+ghost use lib.ListN.{length, set};
+ghost use Rattle.wire.specs.Numbers.{encodeNumber};
+ghost use Rattle.wire.specs.Items.{encodeItems};
+ghost use Rattle.wire.specs.Output.{overwrite, written};
+ghost use Rattle.machine.specs.State.{used, slotAt};
+ghost use Rattle.image.specs.Record.{taskOf, slotOf, messageBytes, messageSize};
+ghost use Rattle.image.specs.Image.{slotsOf, imageNumber};
+ghost use Rattle.table.specs.Table.{slotsIn};
+ghost use Rattle.table.specs.Change.{taskAt, messageAt, change};
+ghost use Rattle.snapshot.specs.Loading.{Loadable, LoadableSlot, LoadableSlots, loaded, registersSet, messagesAdded};
+ghost use Rattle.snapshot.specs.Writing.{snapshotBytes, headBytes, shownSlot, shownTask, shownMessage, isShown};
+
+// ---- load
+
+// Sets the eight registers of the task in a slot.
+fn load_registers(table: &mut [u32; 3328], slot: usize, registers: &[u8])
+    ensures { λ _. ⌜ slotsIn (now (table .exit)) ≡ change slot (registersSet 8 (now (registers .entry))) (slotsIn (now (table .entry))) ⌝ }
+{
+    let mut a: usize = 0;
+    while a < 8 {
+        let value = wire::decode_u32(wire::drop(registers, 4 * a));
+        table::set_register(table, slot, a, value);
+        a += 1;
+    }
+}
+
+// Adds the messages to the mailbox of the task in a slot.
+fn load_mailbox(table: &mut [u32; 3328], slot: usize, mailbox: &[u8])
+    ensures { λ _. ⌜ slotsIn (now (table .exit)) ≡ change slot (messagesAdded (length (now (mailbox .entry)) / messageSize) (now (mailbox .entry))) (slotsIn (now (table .entry))) ⌝ }
+{
+    let count = mailbox.len() / 6;
+    let mut i: usize = 0;
+    while i < count {
+        let message = wire::drop(mailbox, 6 * i);
+        let value = wire::decode_u32(wire::drop(message, 2));
+        table::append(
+            table,
+            slot,
+            wire::byte_at(message, 0),
+            wire::byte_at(message, 1),
+            value,
+        );
+        i += 1;
+    }
+}
+
+// Puts the task of a record into a slot.
+fn load_task(table: &mut [u32; 3328], slot: usize, bytes: &[u8])
+    requires { ⌜ Loadable (now bytes) ⌝ }
+    ensures { λ _. ⌜ slotsIn (now (table .exit)) ≡ set (slotsIn (now (table .entry))) slot (used (taskOf (now (bytes .entry)))) ⌝ }
+{
+    let pc = wire::decode_u16(wire::drop(bytes, 3)) as u32;
+    table::put_task(
+        table,
+        slot,
+        wire::byte_at(bytes, 0),
+        wire::byte_at(bytes, 1),
+        wire::byte_at(bytes, 2),
+        pc,
+    );
+    load_registers(table, slot, wire::drop(bytes, 5));
+    load_mailbox(table, slot, wire::drop(bytes, 37));
+}
+
+// Puts what a record holds into a slot: no bytes are an unused slot.
+fn load_slot(table: &mut [u32; 3328], slot: usize, bytes: &[u8])
+    requires { ⌜ LoadableSlot (now bytes) ⌝ }
+    ensures { λ _. ⌜ slotsIn (now (table .exit)) ≡ set (slotsIn (now (table .entry))) slot (slotOf (now (bytes .entry))) ⌝ }
+{
+    if bytes.len() == 0 {
+        table::clear(table, slot);
+    } else {
+        load_task(table, slot, bytes);
+    }
+}
+
+// Loads slots 0 to 15.
+fn load_slots(table: &mut [u32; 3328], slots: &[u8])
+    requires { ⌜ LoadableSlots (now slots) ⌝ }
+    ensures { λ _. ⌜ slotsIn (now (table .exit)) ≡ slotsOf 16 (now (slots .entry)) ⌝ }
+{
+    let mut at: usize = 0;
+    let mut slot: usize = 0;
+    while slot < 16 {
+        let rest = wire::drop(slots, at);
+        load_slot(table, slot, image::front_record(rest));
+        at += 2 + image::record_length(rest);
+        slot += 1;
+    }
+}
+
+// Checks an image and loads it, where it is accepted, into the table: the number of the image.
+pub fn load(table: &mut [u32; 3328], image: &[u8]) -> u8
+    ensures { λ r. ⌜ (r ≡ imageNumber (now (image .entry))) × (slotsIn (now (table .exit)) ≡ loaded (now (image .entry)) (slotsIn (now (table .entry)))) ⌝ }
+{
+    let number = image::number(image);
+    if number == 0 {
+        load_slots(table, image::slots_part(image));
+    }
+    number
+}
+
+// ---- lengths, known before the first byte is written
+
+// Whether the observer sees a task in a slot.
+fn is_shown(table: &[u32; 3328], slot: usize, observer: u8) -> bool
+    ensures { λ r. ⌜ r ≡ isShown observer (slotAt (slotsIn (now (table .entry))) slot) ⌝ }
+{
+    (table::kind(table, slot) != 0) & label::flows(table::label(table, slot), observer)
+}
+
+// How many bytes of a message the observer is shown.
+fn message_length(table: &[u32; 3328], slot: usize, i: usize, observer: u8) -> usize
+    ensures { λ r. ⌜ (r ≡ length (shownMessage observer (messageAt (slotsIn (now (table .entry))) slot i))) × (r ≤ 6) ⌝ }
+{
+    if label::flows(table::message_label(table, slot, i), observer) {
+        6
+    } else {
+        0
+    }
+}
+
+// How many bytes of a mailbox.
+fn mailbox_length(table: &[u32; 3328], slot: usize, observer: u8) -> usize
+    ensures { λ r. ⌜ (r ≡ length (encodeItems (shownMessage observer) (taskAt (slotsIn (now (table .entry))) slot .mailbox))) × (r ≤ 384) ⌝ }
+{
+    let count = table::mailbox_length(table, slot);
+    let mut n: usize = 0;
+    let mut i: usize = 0;
+    while i < count {
+        n += message_length(table, slot, i, observer);
+        i += 1;
+    }
+    n
+}
+
+// How many bytes of a slot, with the length in front.
+fn slot_length(table: &[u32; 3328], slot: usize, observer: u8) -> usize
+    ensures { λ r. ⌜ (r ≡ length (shownSlot observer (slotAt (slotsIn (now (table .entry))) slot))) × (r ≤ 423) ⌝ }
+{
+    if is_shown(table, slot, observer) {
+        39 + mailbox_length(table, slot, observer)
+    } else {
+        2
+    }
+}
+
+// How many bytes of all slots.
+fn slots_length(table: &[u32; 3328], observer: u8) -> usize
+    ensures { λ r. ⌜ (r ≡ length (encodeItems (shownSlot observer) (slotsIn (now (table .entry))))) × (r ≤ 6768) ⌝ }
+{
+    let mut n: usize = 0;
+    let mut slot: usize = 0;
+    while slot < 16 {
+        n += slot_length(table, slot, observer);
+        slot += 1;
+    }
+    n
+}
+
+// ---- write
+
+// The message, where the observer sees it.
+fn write_message(out: &mut [u8], table: &[u32; 3328], slot: usize, i: usize, observer: u8) -> usize
+    requires { ⌜ length (shownMessage observer (messageAt (slotsIn (now table)) slot i)) ≤ length (now out) ⌝ }
+    ensures { λ r. ⌜ (r ≡ length (shownMessage observer (messageAt (slotsIn (now (table .entry))) slot i))) × (r ≤ 6) × (now (out .exit) ≡ overwrite (shownMessage observer (messageAt (slotsIn (now (table .entry))) slot i)) (now (out .entry))) ⌝ }
+{
+    let label = table::message_label(table, slot, i);
+    if label::flows(label, observer) {
+        let sender = table::message_sender(table, slot, i);
+        let value = table::message_value(table, slot, i);
+        put_message(out, label, sender, value);
+        6
+    } else {
+        0
+    }
+}
+
+fn put_message(out: &mut [u8], label: u8, sender: u8, value: u32)
+    requires { ⌜ 6 ≤ length (now out) ⌝ }
+    ensures { λ _. ⌜ now (out .exit) ≡ overwrite (messageBytes (record { label = label; sender = sender; value = value })) (now (out .entry)) ⌝ }
+{
+    out[0] = label;
+    out[1] = sender;
+    wire::encode_u32(&mut out[2..], value);
+}
+
+// The messages of a mailbox that the observer sees, each behind the one before.
+fn write_mailbox(out: &mut [u8], table: &[u32; 3328], slot: usize, observer: u8)
+    requires { ⌜ length (encodeItems (shownMessage observer) (taskAt (slotsIn (now table)) slot .mailbox)) ≤ length (now out) ⌝ }
+    ensures { λ _. ⌜ now (out .exit) ≡ overwrite (encodeItems (shownMessage observer) (taskAt (slotsIn (now (table .entry))) slot .mailbox)) (now (out .entry)) ⌝ }
+{
+    let count = table::mailbox_length(table, slot);
+    let mut at: usize = 0;
+    let mut i: usize = 0;
+    while i < count {
+        at += write_message(&mut out[at..], table, slot, i, observer);
+        i += 1;
+    }
+}
+
+// The eight registers of a task.
+fn write_registers(out: &mut [u8], table: &[u32; 3328], slot: usize)
+    requires { ⌜ (32 ≤ length (now out)) × (length (taskAt (slotsIn (now table)) slot .registers) ≡ 8) ⌝ }
+    ensures { λ _. ⌜ now (out .exit) ≡ overwrite (encodeItems (encodeNumber 4) (taskAt (slotsIn (now (table .entry))) slot .registers)) (now (out .entry)) ⌝ }
+{
+    let mut a: usize = 0;
+    while a < 8 {
+        wire::encode_u32(&mut out[4 * a..], table::register(table, slot, a));
+        a += 1;
+    }
+}
+
+// The length of a record and the fields ahead of the registers.
+fn write_fields(out: &mut [u8], size: usize, kind: u8, label: u8, spare: u8, pc: u32)
+    requires { ⌜ 7 ≤ length (now out) ⌝ }
+    ensures { λ _. ⌜ now (out .exit) ≡ overwrite (encodeNumber 2 size ++ kind ∷ label ∷ spare ∷ encodeNumber 2 pc) (now (out .entry)) ⌝ }
+{
+    out[0] = (size / 256 % 256) as u8;
+    out[1] = (size % 256) as u8;
+    out[2] = kind;
+    out[3] = label;
+    out[4] = spare;
+    out[5] = (pc / 256 % 256) as u8;
+    out[6] = (pc % 256) as u8;
+}
+
+// A task that the observer sees: the record's length, the fields, the registers and the mailbox.
+fn write_task(out: &mut [u8], table: &[u32; 3328], slot: usize, observer: u8) -> usize
+    requires { ⌜ (length (taskAt (slotsIn (now table)) slot .registers) ≡ 8) × (39 + length (encodeItems (shownMessage observer) (taskAt (slotsIn (now table)) slot .mailbox)) ≤ length (now out)) ⌝ }
+    ensures { λ r. ⌜ (r ≡ length (shownTask observer (taskAt (slotsIn (now (table .entry))) slot))) × (r ≤ 423) × (now (out .exit) ≡ overwrite (shownTask observer (taskAt (slotsIn (now (table .entry))) slot)) (now (out .entry))) ⌝ }
+{
+    let n = mailbox_length(table, slot, observer);
+    let kind = table::kind(table, slot);
+    let label = table::label(table, slot);
+    let spare = table::spare(table, slot);
+    let pc = table::pc(table, slot);
+    write_fields(out, 37 + n, kind, label, spare, pc);
+    write_registers(&mut out[7..], table, slot);
+    write_mailbox(&mut out[39..], table, slot, observer);
+    39 + n
+}
+
+// A slot's record, with its length in front; no task that the observer sees is an unused slot.
+fn write_slot(out: &mut [u8], table: &[u32; 3328], slot: usize, observer: u8) -> usize
+    requires { ⌜ length (shownSlot observer (slotAt (slotsIn (now table)) slot)) ≤ length (now out) ⌝ }
+    ensures { λ r. ⌜ (r ≡ length (shownSlot observer (slotAt (slotsIn (now (table .entry))) slot))) × (r ≤ 423) × (now (out .exit) ≡ overwrite (shownSlot observer (slotAt (slotsIn (now (table .entry))) slot)) (now (out .entry))) ⌝ }
+{
+    if is_shown(table, slot, observer) {
+        write_task(out, table, slot, observer)
+    } else {
+        wire::encode_u16(out, 0);
+        2
+    }
+}
+
+// The sixteen slots, each into the part of the output that begins where the one before it ends.
+fn write_slots(out: &mut [u8], table: &[u32; 3328], observer: u8)
+    requires { ⌜ length (encodeItems (shownSlot observer) (slotsIn (now table))) ≤ length (now out) ⌝ }
+    ensures { λ _. ⌜ now (out .exit) ≡ overwrite (encodeItems (shownSlot observer) (slotsIn (now (table .entry)))) (now (out .entry)) ⌝ }
+{
+    let mut at: usize = 0;
+    let mut slot: usize = 0;
+    while slot < 16 {
+        at += write_slot(&mut out[at..], table, slot, observer);
+        slot += 1;
+    }
+}
+
+// What stands ahead of the slots: version, program length, program, turn slot.
+fn write_head(out: &mut [u8], program: &[u8], turn: u8)
+    requires { ⌜ 3 + length (now program) + 1 ≤ length (now out) ⌝ }
+    ensures { λ _. ⌜ now (out .exit) ≡ overwrite (headBytes (now (program .entry)) turn) (now (out .entry)) ⌝ }
+{
+    wire::put_byte(out, 1);
+    wire::encode_u16(&mut out[1..], program.len());
+    wire::copy(&mut out[3..], program);
+    wire::put_byte(&mut out[3 + program.len()..], turn);
+}
+
+// Writes the table's tasks as the observer sees them, with the image's program, as an image: its length, and its bytes
+// where the output has room for them all.
+pub fn write(out: &mut [u8], table: &[u32; 3328], image: &[u8], turn: u8, observer: u8) -> usize
+    ensures { λ r. ⌜ (r ≡ length (snapshotBytes (now (table .entry)) (now (image .entry)) turn observer)) × (now (out .exit) ≡ written (snapshotBytes (now (table .entry)) (now (image .entry)) turn observer) (now (out .entry))) ⌝ }
+{
+    let program = image::program(image);
+    let head = 3 + program.len() + 1;
+    let length = head + slots_length(table, observer);
+    if out.len() < length {
+        return length;
+    }
+    write_head(out, program, turn);
+    write_slots(&mut out[head..], table, observer);
+    length
+}
