@@ -1,19 +1,20 @@
 -- Laws of a call: when it is accepted, what it then tells and writes, and which numbers it may tell.
 use Prim.Native.Nat.{ℕ, _≤_}
+use mathlib.Core.Logic.{_≢_}
 use mathlib.Core.Path.{_≡_, refl, sym, _∙_}
 use mathlib.Core.Bool.{cond}
 use mathlib.Core.List.{List, []}
 use native.Mathlib.Omega.{arith}
-use borrow.Author.Tests.{leb-true, le-leb, eqb-true, eqb-false}
+use borrow.Author.Tests.{leb-true, le-leb, eqb-true, eqb-false, ne-eqb}
 use lib.Dec.{leb, eqb}
 use lib.ListN.{length, take}
-use Rattle.wire.specs.Output.{overwrite}
+use Rattle.wire.specs.Output.{overwrite, written}
 use Rattle.wire.proofs.Lists.{split}
 use Rattle.wire.proofs.Output.{take-overwrite, drop-overwrite, length-overwrite}
 use Rattle.image.specs.Refusal.{_then_, unless}
 use Rattle.image.specs.Image.{imageNumber}
-use Rattle.image.proofs.Refusal.{then-left, then-right, then-holds, unless-holds, unless-none}
-use Rattle.monitor.specs.Calls.{Call, callNumber, callAnswer, callOutput}
+use Rattle.image.proofs.Refusal.{then-stop, then-left, then-right, then-holds, unless-holds, unless-none}
+use Rattle.monitor.specs.Calls.{Call, callNumber, refusal, callAnswer, callOutput}
 use Rattle.monitor.specs.Claims.{AcceptedExactly, WritesItsAnswer}
 
 module _ (c : Call) (image out : List ℕ) where
@@ -79,3 +80,20 @@ module _ (c : Call) (image out : List ℕ) where
   number-holds P a i z o =
       rw answer-number
       (then-holds P (c .argumentNumber) _ a (then-holds P (imageNumber image) _ i (unless-holds P (leb (length (c .bytes)) (length out)) 13 z o)))
+
+  -- ---- a call whose argument is within its limit
+
+  module _ (argument : c .argumentNumber ≡ 0) where
+    -- its image is refused
+    pub image-refused : imageNumber image ≢ 0 → (callAnswer c image out ≡ refusal (imageNumber image)) × (callOutput c image out ≡ out)
+    unfolding callAnswer callOutput callNumber
+    image-refused refused =
+        rw (argument, then-stop (imageNumber image) refused (unless (leb (length (c .bytes)) (length out)) 13), ne-eqb (imageNumber image) 0 refused) (refl, refl)
+
+    -- its image is accepted, and only the output may be too short
+    pub image-accepted : imageNumber image ≡ 0
+        → (callAnswer c image out ≡ cond (leb (length (c .bytes)) (length out)) (record { number = 0; length = length (c .bytes); busy = c .busy }) (refusal 13))
+        × (callOutput c image out ≡ written (c .bytes) out)
+    unfolding callAnswer callOutput callNumber
+    image-accepted accepted =
+        rw (argument, accepted) (split (leb (length (c .bytes)) (length out)) (λ e. rw e (refl, refl)) (λ e. rw e (refl, refl)))

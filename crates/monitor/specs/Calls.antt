@@ -27,11 +27,14 @@ unfoldable pub callNumber : Call → List ℕ → List ℕ → ℕ
 callNumber c image out = c .argumentNumber then imageNumber image then unless (leb (length (c .bytes)) (length out)) 13
 
 -- a refused call tells its number, length 0 and busy count 0; an accepted one tells number 0
+abbrev pub refusal : ℕ → Answer
+refusal n = record { number = n; length = 0; busy = 0 }
+
 unfoldable pub callAnswer : Call → List ℕ → List ℕ → Answer
 callAnswer c image out =
     cond (eqb (callNumber c image out) 0)
     (record { number = 0; length = length (c .bytes); busy = c .busy })
-    (record { number = callNumber c image out; length = 0; busy = 0 })
+    (refusal (callNumber c image out))
 
 -- a refused call writes no byte, and an accepted one only the bytes of its answer
 unfoldable pub callOutput : Call → List ℕ → List ℕ → List ℕ
