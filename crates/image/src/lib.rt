@@ -8,19 +8,21 @@ ghost use Rattle.image.specs.Image.{programLength, programOf, turnSlotOf
 
 // ---- the layout: where the fields begin, in an image and in a record, and the size of a message
 
-const PROGRAM_AT: usize = 3;
+pub const PROGRAM_AT: usize = 3;
 
-const KIND_AT: usize = 0;
+pub const KIND_AT: usize = 0;
 
-const LABEL_AT: usize = 1;
+pub const LABEL_AT: usize = 1;
 
-const SPARE_AT: usize = 2;
+pub const SPARE_AT: usize = 2;
 
-const PC_AT: usize = 3;
+pub const PC_AT: usize = 3;
 
-const MAILBOX_AT: usize = 37;
+pub const REGISTERS_AT: usize = 5;
 
-const MESSAGE_SIZE: usize = 6;
+pub const MAILBOX_AT: usize = 37;
+
+pub const MESSAGE_SIZE: usize = 6;
 
 // ---- the parts of an image
 

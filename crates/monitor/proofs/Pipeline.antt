@@ -3,7 +3,7 @@ use Prim.Native.Nat.{ℕ}
 use mathlib.Core.Path.{_≡_, ap, _∙_}
 use mathlib.Core.List.{List}
 use Rattle.wire.specs.Lists.{Bytes}
-use Rattle.machine.specs.State.{Slot, State}
+use Rattle.machine.specs.State.{Slot}
 use Rattle.machine.specs.Machine.{view}
 use Rattle.machine.proofs.Machine.{view-15}
 use Rattle.image.specs.Image.{programOf, turnSlotOf, imageNumber, stateOf, imageBytes}

@@ -5,7 +5,7 @@ use mathlib.Core.List.{List, [], _∷_, _++_, append-nil}
 use native.Mathlib.Numerals.{add-one}
 use native.Mathlib.Omega.{arith}
 use borrow.Author.Tests.{ne-eqb}
-use lib.ListN.{length, getD, take, drop, set, replicate, length-append, drop-of-length-le}
+use lib.ListN.{length, getD, take, drop, set, length-append, drop-of-length-le}
 use lib.Seq.{take-all, drop-cons, drop-drop, set-at, append-snoc}
 use Rattle.wire.specs.Lists.{Bytes}
 use Rattle.wire.specs.Numbers.{decodeNumber}
@@ -15,7 +15,7 @@ use Rattle.machine.specs.Valid.{ValidTask}
 use Rattle.machine.proofs.Rules.{task-facts}
 use Rattle.machine.proofs.Mailbox.{mailbox-64}
 use Rattle.wire.specs.Items.{decodeItems}
-use Rattle.wire.proofs.Items.{length-decode, decode-at, decode-more}
+use Rattle.wire.proofs.Items.{length-decode, decode-more}
 use Rattle.machine.specs.State.{Message, Task, Slot, unused, used, slotAt, withRegister, withRegisters, withMailbox}
 use Rattle.image.specs.Record.{messageOf, taskOf, slotOf}
 use Rattle.image.specs.Image.{recordLength, recordOf, skip, slotsOf, slotsPart, programOf, imageNumber, stateOf}

@@ -1,9 +1,9 @@
 -- The parts of a view: what is written of a message, a task and a slot, and how long it is.
-use Prim.Native.Nat.{ℕ, _+_, _≤_}
+use Prim.Native.Nat.{ℕ, _+_}
 use mathlib.Core.Logic.{_≢_}
 use mathlib.Core.Path.{_≡_, refl, sym, ap, _∙_}
 use mathlib.Core.Bool.{true, false, not, _&&_}
-use mathlib.Core.List.{List, [], _∷_, _++_, map}
+use mathlib.Core.List.{List, [], _∷_, _++_}
 use native.Mathlib.Omega.{arith}
 use borrow.Author.Tests.{ne-eqb}
 use lib.Dec.{eqb}
@@ -18,7 +18,7 @@ use Rattle.wire.proofs.Items.{items-map, items-keep, length-items}
 use Rattle.machine.specs.State.{Message, Task, Slot, unused, used}
 use Rattle.machine.specs.View.{viewSlot, view}
 use Rattle.image.specs.Record.{messageBytes}
-use Rattle.image.specs.Image.{programOf, slotBytes, slotsBytes, imageBytes}
+use Rattle.image.specs.Image.{programOf, slotBytes, imageBytes}
 use Rattle.table.specs.Table.{slotsIn}
 use Rattle.table.specs.Change.{taskOr}
 use Rattle.snapshot.specs.Writing.{snapshotBytes, headBytes, shownSlot, shownTask, shownMessage, isShown}

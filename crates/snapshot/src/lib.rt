@@ -32,10 +32,10 @@ fn load_registers(table: &mut [u32; 3328], slot: usize, registers: &[u8])
 fn load_mailbox(table: &mut [u32; 3328], slot: usize, mailbox: &[u8])
     ensures { λ _. ⌜ slotsIn (now (table .exit)) ≡ change slot (messagesAdded (length (now (mailbox .entry)) / messageSize) (now (mailbox .entry))) (slotsIn (now (table .entry))) ⌝ }
 {
-    let count = mailbox.len() / 6;
+    let count = mailbox.len() / image::MESSAGE_SIZE;
     let mut i: usize = 0;
     while i < count {
-        let message = wire::drop(mailbox, 6 * i);
+        let message = wire::drop(mailbox, image::MESSAGE_SIZE * i);
         let value = wire::decode_u32(wire::drop(message, 2));
         table::append(
             table,
@@ -53,17 +53,17 @@ fn load_task(table: &mut [u32; 3328], slot: usize, bytes: &[u8])
     requires { ⌜ Loadable (now bytes) ⌝ }
     ensures { λ _. ⌜ slotsIn (now (table .exit)) ≡ set (slotsIn (now (table .entry))) slot (used (taskOf (now (bytes .entry)))) ⌝ }
 {
-    let pc = wire::decode_u16(wire::drop(bytes, 3)) as u32;
+    let pc = wire::decode_u16(wire::drop(bytes, image::PC_AT)) as u32;
     table::put_task(
         table,
         slot,
-        wire::byte_at(bytes, 0),
-        wire::byte_at(bytes, 1),
-        wire::byte_at(bytes, 2),
+        wire::byte_at(bytes, image::KIND_AT),
+        wire::byte_at(bytes, image::LABEL_AT),
+        wire::byte_at(bytes, image::SPARE_AT),
         pc,
     );
-    load_registers(table, slot, wire::drop(bytes, 5));
-    load_mailbox(table, slot, wire::drop(bytes, 37));
+    load_registers(table, slot, wire::drop(bytes, image::REGISTERS_AT));
+    load_mailbox(table, slot, wire::drop(bytes, image::MAILBOX_AT));
 }
 
 // Puts what a record holds into a slot: no bytes are an unused slot.
@@ -106,6 +106,11 @@ pub fn load(table: &mut [u32; 3328], image: &[u8]) -> u8
 
 // ---- lengths, known before the first byte is written
 
+// Where the registers and the mailbox of a slot begin, behind the length of its record.
+const REGISTERS_FROM: usize = 2 + image::REGISTERS_AT;
+
+const MAILBOX_FROM: usize = 2 + image::MAILBOX_AT;
+
 // Whether the observer sees a task in a slot.
 fn is_shown(table: &[u32; 3328], slot: usize, observer: u8) -> bool
     ensures { λ r. ⌜ r ≡ isShown observer (slotAt (slotsIn (now (table .entry))) slot) ⌝ }
@@ -118,7 +123,7 @@ fn message_length(table: &[u32; 3328], slot: usize, i: usize, observer: u8) -> u
     ensures { λ r. ⌜ (r ≡ length (shownMessage observer (messageAt (slotsIn (now (table .entry))) slot i))) × (r ≤ 6) ⌝ }
 {
     if label::flows(table::message_label(table, slot, i), observer) {
-        6
+        image::MESSAGE_SIZE
     } else {
         0
     }
@@ -143,7 +148,7 @@ fn slot_length(table: &[u32; 3328], slot: usize, observer: u8) -> usize
     ensures { λ r. ⌜ (r ≡ length (shownSlot observer (slotAt (slotsIn (now (table .entry))) slot))) × (r ≤ 423) ⌝ }
 {
     if is_shown(table, slot, observer) {
-        39 + mailbox_length(table, slot, observer)
+        MAILBOX_FROM + mailbox_length(table, slot, observer)
     } else {
         2
     }
@@ -174,7 +179,7 @@ fn write_message(out: &mut [u8], table: &[u32; 3328], slot: usize, i: usize, obs
         let sender = table::message_sender(table, slot, i);
         let value = table::message_value(table, slot, i);
         put_message(out, label, sender, value);
-        6
+        image::MESSAGE_SIZE
     } else {
         0
     }
@@ -239,10 +244,10 @@ fn write_task(out: &mut [u8], table: &[u32; 3328], slot: usize, observer: u8) ->
     let label = table::label(table, slot);
     let spare = table::spare(table, slot);
     let pc = table::pc(table, slot);
-    write_fields(out, 37 + n, kind, label, spare, pc);
-    write_registers(&mut out[7..], table, slot);
-    write_mailbox(&mut out[39..], table, slot, observer);
-    39 + n
+    write_fields(out, image::MAILBOX_AT + n, kind, label, spare, pc);
+    write_registers(&mut out[REGISTERS_FROM..], table, slot);
+    write_mailbox(&mut out[MAILBOX_FROM..], table, slot, observer);
+    MAILBOX_FROM + n
 }
 
 // A slot's record, with its length in front; no task that the observer sees is an unused slot.
@@ -278,8 +283,8 @@ fn write_head(out: &mut [u8], program: &[u8], turn: u8)
 {
     wire::put_byte(out, 1);
     wire::encode_u16(&mut out[1..], program.len());
-    wire::copy(&mut out[3..], program);
-    wire::put_byte(&mut out[3 + program.len()..], turn);
+    wire::copy(&mut out[image::PROGRAM_AT..], program);
+    wire::put_byte(&mut out[image::PROGRAM_AT + program.len()..], turn);
 }
 
 // Writes the table's tasks as the observer sees them, with the image's program, as an image: its length, and its bytes
@@ -288,7 +293,7 @@ pub fn write(out: &mut [u8], table: &[u32; 3328], image: &[u8], turn: u8, observ
     ensures { λ r. ⌜ (r ≡ length (snapshotBytes (now (table .entry)) (now (image .entry)) turn observer)) × (now (out .exit) ≡ written (snapshotBytes (now (table .entry)) (now (image .entry)) turn observer) (now (out .entry))) ⌝ }
 {
     let program = image::program(image);
-    let head = 3 + program.len() + 1;
+    let head = image::PROGRAM_AT + program.len() + 1;
     let length = head + slots_length(table, observer);
     if out.len() < length {
         return length;

@@ -3,7 +3,7 @@ use Prim.Native.Nat.{ℕ, zero, suc, _+_, _*_, _<_, _≤_}
 use mathlib.Core.Path.{_≡_, refl, sym, ap, ap₂, _∙_}
 use mathlib.Core.Bool.{Bool, cond}
 use mathlib.Core.List.{List, [], _∷_, _++_, map, append-assoc}
-use native.Mathlib.Nat.{mul-zero, mul-suc, not-suc-le-zero, le-of-suc-le-suc}
+use native.Mathlib.Nat.{mul-zero, mul-suc}
 use native.Mathlib.Numerals.{add-one}
 use native.Mathlib.Omega.{arith}
 use lib.ListN.{length, getD, take, drop, length-append, length-drop, drop-of-length-le}
@@ -23,14 +23,7 @@ module _ {A : Type 0} (w : ℕ) (f : List ℕ → A) where
       let e : w + w * i ≡ w * suc i = rw mul-suc (omega arith) in
       drop-drop (w * i) w b ∙ ap (λ (n : ℕ). drop n b) e
 
-  -- item i, and one item more
-  pub decode-at : (k : ℕ) (b : List ℕ) (i : ℕ) (d : A) → i < k → getD (decodeItems w f k b) i d ≡ f (drop (w * i) b)
-  unfolding decodeItems
-  decode-at zero b i d h = absurd (not-suc-le-zero h)
-  decode-at (suc k) b zero d h = rw mul-zero
-  decode-at (suc k) b (suc i) d h =
-      decode-at k (drop w b) i d (le-of-suc-le-suc h) ∙ ap f (drop-item i b)
-
+  -- one item more
   pub decode-more : (k : ℕ) (b : List ℕ) → decodeItems w f (suc k) b ≡ decodeItems w f k b ++ (f (drop (w * k) b) ∷ [])
   unfolding decodeItems
   decode-more zero b = rw mul-zero

@@ -1,17 +1,16 @@
 -- `monitor::rewrite` meets its contract: an accepted image is loaded, and written for label 15.
 use borrow.Author.Needs.{needs}
-use mathlib.Core.Path.{_≡_, refl, sym, ap, _∙_}
-use mathlib.Core.Bool.{cond}
-use mathlib.Core.List.{List}
 use Prim.Native.Nat.{ℕ}
+use mathlib.Core.Path.{refl, sym, ap, _∙_}
+use mathlib.Core.List.{List}
 use denote.Ref.{now}
-use lib.Dec.{leb}
 use lib.ListN.{length}
 use Rattle.wire.specs.Lists.{IsByte}
 use Rattle.wire.specs.Output.{written}
 use Rattle.wire.proofs.Lists.{every-of}
 use Rattle.wire.proofs.Output.{length-written}
 use Rattle.image.specs.Image.{stateOf, imageBytes}
+use Rattle.snapshot.specs.Writing.{snapshotBytes}
 use Rattle.snapshot.proofs.Loading.{loaded-accepted}
 use Rattle.monitor.specs.Calls.{refusal, rewriteCall}
 use Rattle.monitor.proofs.Calls.{image-refused, image-accepted}
@@ -31,10 +30,12 @@ returns c =
     let turn = c .before .before .before .before .turn-slot .ensures in
     let bytes = every-of IsByte 0 image (λ i. l .before .before .before .shared-slice-known .given i .fits) in
     let loaded = l .load .ensures .1 ∙ loaded-accepted image _ accepted in
-    let same = rewrite-bytes image bytes accepted (l .load .last .0) loaded in
-    let wrote = rw (turn, same) at (w .ensures) in
-    let room = ap length (wrote .1) ∙ length-written (imageBytes (stateOf image)) out in
-    (rw (wrote .0, room) at (c .told .ensures) ∙ sym (laws .0), wrote .1 ∙ sym (laws .1))
+    let words = l .load .last .0 in
+    let same = ap (λ (t : ℕ). snapshotBytes words image t 15) turn ∙ rewrite-bytes image bytes accepted words loaded in
+    let size = w .ensures .0 ∙ ap length same in
+    let wrote = w .ensures .1 ∙ ap (λ (b : List ℕ). written b out) same in
+    let room = ap length wrote ∙ length-written (imageBytes (stateOf image)) out in
+    (rw (size, room) at (c .told .ensures) ∙ sym (laws .0), wrote ∙ sym (laws .1))
 
 returns-2 : tie.Need-returns-2
 returns-2 c =

@@ -1,6 +1,5 @@
 -- `snapshot::load` meets its contract: an accepted image is loadable.
-use mathlib.Core.Path.{_≡_, sym, ap, _∙_}
-use native.Mathlib.Omega.{arith}
+use mathlib.Core.Path.{sym, ap, _∙_}
 use denote.Ref.{now}
 use Rattle.wire.specs.Lists.{IsByte}
 use Rattle.wire.proofs.Lists.{every-of}

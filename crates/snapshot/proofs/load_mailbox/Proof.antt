@@ -1,10 +1,9 @@
 -- `snapshot::load_mailbox` meets its contract: the first i messages are added.
-use Prim.Native.Nat.{ℕ, _≤_, _-_, _*_, _/_}
-use mathlib.Core.Path.{_≡_, sym, ap, _∙_}
+use Prim.Native.Nat.{_≤_, _-_, _/_}
+use mathlib.Core.Path.{_≡_, ap, _∙_}
 use native.Mathlib.Omega.{arith}
 use denote.Ref.{now}
 use lib.ListN.{length, drop}
-use Rattle.wire.specs.Numbers.{decodeNumber}
 use Rattle.image.specs.Record.{messageOf}
 use Rattle.table.specs.Table.{slotsIn}
 use Rattle.table.specs.Change.{change, withMessage}

@@ -1,6 +1,6 @@
 -- `snapshot::load_registers` meets its contract: the first a registers are set.
-use Prim.Native.Nat.{ℕ, _≤_, _-_, _*_, _/_}
-use mathlib.Core.Path.{_≡_, sym, ap, _∙_}
+use Prim.Native.Nat.{_≤_, _-_, _*_}
+use mathlib.Core.Path.{_≡_, ap, _∙_}
 use native.Mathlib.Omega.{arith}
 use denote.Ref.{now}
 use lib.ListN.{drop}

@@ -1,6 +1,6 @@
 -- `snapshot::load_task` meets its contract: a new task, then its registers, then its messages.
 use Prim.Native.Nat.{_/_}
-use mathlib.Core.Path.{_≡_, ap, _∙_}
+use mathlib.Core.Path.{ap, _∙_}
 use lib.ListN.{length, drop}
 use native.Mathlib.Omega.{arith}
 use denote.Ref.{now}

@@ -2,7 +2,6 @@
 use Prim.Native.Nat.{_-_, _*_, _≤_}
 use native.Mathlib.Omega.{arith}
 use denote.Ref.{now}
-use lib.ListN.{length}
 use Rattle.wire.proofs.Output.{ItemsWritten, items-none, item-part, items-more, items-all}
 use Rattle.table.specs.Table.{slotsIn}
 use Rattle.table.specs.Change.{noMessage, taskAt}

@@ -1,9 +1,8 @@
 -- `snapshot::write_slot` meets its contract: a task that the observer sees, or length 0.
 use borrow.Author.Needs.{needs}
-use mathlib.Core.Path.{_≡_, refl, sym, ap, _∙_}
+use mathlib.Core.Path.{refl, sym, _∙_}
 use mathlib.Core.List.{[], _∷_}
-use Prim.Native.Nat.{ℕ, _≤_}
-use mathlib.Core.List.{List}
+use Prim.Native.Nat.{_≤_}
 use native.Mathlib.Omega.{arith}
 use denote.Ref.{now}
 use lib.ListN.{length}
@@ -47,7 +46,7 @@ write-slot-spec =
     (λ c κs. tt)
     write-task-requires
     (λ c κs. tt)
-    (λ c. search needs)
+    (λ c. omega arith)
     returns
-    (λ c. search needs)
+    (λ c. omega arith)
     returns-2)

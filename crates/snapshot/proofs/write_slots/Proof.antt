@@ -1,6 +1,5 @@
 -- `snapshot::write_slots` meets its contract: the first slots are written.
 use Prim.Native.Nat.{_-_, _*_, _<_, _≤_}
-use mathlib.Core.Path.{sym}
 use native.Mathlib.Omega.{arith}
 use denote.Ref.{now}
 use lib.ListN.{length}
