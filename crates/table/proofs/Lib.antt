@@ -6,4 +6,5 @@ pub mod Change
 pub mod Slots
 pub mod Held
 pub mod Mailbox
+pub mod Shift
 pub mod Stores

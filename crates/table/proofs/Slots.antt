@@ -31,6 +31,10 @@ unfolding taskIn
 slot-at t s full =
     dite (decLt s 16) (slot-in t s) (λ l. let past : 16 ≤ s = omega arith in rw (window-past t s full past) (slot-past t s past))
 
+-- a slot with a message is one of the sixteen
+pub mailbox-slot : (t : List ℕ) (s i : ℕ) → i < length (taskAt (slotsIn t) s .mailbox) → s < 16
+mailbox-slot t s i h = dite (decLt s 16) (λ l. l) (λ l. absurd (omega (arith, rw (slot-past t s (omega arith)) at h)))
+
 -- ---- changing
 
 held-change : (g : Task → Task) (k : Task) → g k .kind ≡ k .kind → held (g k) ≡ changeSlot g (held k)

@@ -1,20 +1,23 @@
 -- Laws of the mailboxes in the slots after the words of a message, or of their number, were stored.
-use Prim.Native.Nat.{ℕ, _+_, _<_, _≤_}
+use Prim.Native.Nat.{ℕ, suc, _+_, _*_, _<_}
 use mathlib.Core.Path.{_≡_, refl, sym, ap, _∙_}
 use mathlib.Core.List.{List}
 use native.Mathlib.Omega.{arith}
-use lib.ListN.{length, getD, take, set, length-take, length-set}
-use lib.Seq.{take-take}
+use lib.ListN.{length, getD, take, set, length-set}
+use Rattle.wire.specs.Lists.{without}
+use Rattle.wire.proofs.Lists.{take-length-take}
 use Rattle.wire.proofs.Tabulate.{length-tabulate}
 use Rattle.machine.specs.State.{Message, Task, used, slotAt, withMailbox}
 use Rattle.table.specs.Table.{window, messageIn, messagesIn, taskIn, slotsIn}
-use Rattle.table.specs.Change.{taskAt, messageAt, change, withMoved, truncated, withMessage}
-use Rattle.table.specs.Words.{Rewrite, storeMessage}
+use Rattle.table.specs.Change.{taskAt, change, withMessage, withoutMessage}
+use Rattle.table.specs.Words.{Rewrite, storeMessage, shifted}
+use Rattle.table.proofs.Window.{rewrite-then}
 use Rattle.table.proofs.Task.{count-stored}
 use Rattle.table.proofs.Message.{messages-stored, message-stored}
 use Rattle.table.proofs.Change.{change-same}
 use Rattle.table.proofs.Slots.{slots-change, used-task}
-use Rattle.table.proofs.Mailbox.{take-set, take-append}
+use Rattle.table.proofs.Mailbox.{take-append}
+use Rattle.table.proofs.Shift.{length-shifted, rewrite-shifted, message-removed}
 
 length-messages : (w : List ℕ) → length (messagesIn w) ≡ 64
 unfolding messagesIn
@@ -30,26 +33,18 @@ module _ (t u : List ℕ) (s : ℕ) (full : length t ≡ 3328) where
   abbrev w : List ℕ
   w = window t s
 
-  pub truncate-slots : (n : ℕ) → Rewrite s (λ v. set v 12 n) t u → n < length (taskAt (slotsIn t) s .mailbox)
-      → slotsIn u ≡ change s (truncated n) (slotsIn t)
-  truncate-slots n p less =
-      slots-change p full (withMailbox (take n (messagesIn w))) (λ k. refl) (count-stored n w)
-      ∙ change-same (slotsIn t) s (withMailbox (take n (messagesIn w))) (truncated n)
+  remove-slots : (i n : ℕ) → i + n < 64 → Rewrite s (λ v. set (shifted (144 + i) n (shifted (80 + i) n (shifted (16 + i) n v))) 12 (i + n)) t u
+      → suc (i + n) ≡ length (taskAt (slotsIn t) s .mailbox) → slotsIn u ≡ change s (withoutMessage i) (slotsIn t)
+  remove-slots i n fits p count =
+      let removed : Task → Task = withMailbox (without i (take (suc (i + n)) (messagesIn w))) in
+      slots-change p full removed (λ k. refl) (λ long. message-removed i n w long fits)
+      ∙ change-same (slotsIn t) s removed (withoutMessage i)
       (λ k e.
-      let m : k .mailbox ≡ take (getD w 12 0) (messagesIn w) = mailbox-of t s full k e in
-      let b : n < length (take (getD w 12 0) (messagesIn w)) = rw (← m) (rw e at less) in
-      let c : n ≤ getD w 12 0 = omega (arith, rw length-take at b) in
-      rw m (ap (λ (ms : List Message). withMailbox ms k) (sym (take-take n (getD w 12 0) (messagesIn w) c))))
+      let b : k .mailbox ≡ take (getD w 12 0) (messagesIn w) = mailbox-of t s full k e in
+      let m : suc (i + n) ≡ length (take (getD w 12 0) (messagesIn w)) = rw e at count ∙ ap length b in
+      ap (λ (ms : List Message). withMailbox (without i ms) k) (rw m (sym (take-length-take (getD w 12 0) (messagesIn w))) ∙ sym b))
 
   module _ (i : ℕ) (m : Message) (small : i < 64) (label : m .label < 256) (sender : m .sender < 256) where
-    pub move-slots : Rewrite s (storeMessage i m) t u → m ≡ messageAt (slotsIn t) s (i + 1) → slotsIn u ≡ change s (withMoved i) (slotsIn t)
-    unfolding taskIn
-    move-slots p e =
-        let stored : Task → Task = λ k. withMailbox (set (k .mailbox) i m) k in
-        slots-change p full stored (λ k. refl)
-        (λ long. message-stored i m w small long label sender ∙ ap (λ (ms : List Message). withMailbox ms (taskIn w)) (take-set (getD w 12 0) (messagesIn w) i m))
-        ∙ change-same (slotsIn t) s stored (withMoved i) (λ k h. ap (λ (x : Message). withMailbox (set (k .mailbox) i x) k) (rw h at e))
-
     pub append-slots : Rewrite s (λ v. set (storeMessage i m v) 12 (i + 1)) t u → i ≡ length (taskAt (slotsIn t) s .mailbox)
         → slotsIn u ≡ change s (withMessage m) (slotsIn t)
     unfolding storeMessage
@@ -65,3 +60,18 @@ module _ (t u : List ℕ) (s : ℕ) (full : length t ≡ 3328) where
         let n : i ≡ length (k .mailbox) = rw e at count in
         ap (λ (ms : List Message). withMailbox ms k)
         (take-append (getD w 12 0) i 64 (messagesIn w) m (length-messages w) (n ∙ ap length b) small ∙ rw b))
+
+-- the stores of a removal, n messages behind message i
+pub remove-stores : (t t₁ t₂ t₃ u : List ℕ) (s i n at : ℕ) → s < 16 → i + n < 64 → at ≡ s * 208 + i → length t₃ ≡ 3328
+    → t₁ ≡ shifted (at + 16) n t → t₂ ≡ shifted (at + 80) n t₁ → t₃ ≡ shifted (at + 144) n t₂ → Rewrite s (λ w. set w 12 (i + n)) t₃ u
+    → suc (i + n) ≡ length (taskAt (slotsIn t) s .mailbox) → slotsIn u ≡ change s (withoutMessage i) (slotsIn t)
+remove-stores t t₁ t₂ t₃ u s i n at h fits e long₃ e₁ e₂ e₃ p count =
+    let long₂ : length t₂ ≡ 3328 = sym (length-shifted n (at + 144) t₂) ∙ ap length (sym e₃) ∙ long₃ in
+    let long₁ : length t₁ ≡ 3328 = sym (length-shifted n (at + 80) t₁) ∙ ap length (sym e₂) ∙ long₂ in
+    let long : length t ≡ 3328 = sym (length-shifted n (at + 16) t) ∙ ap length (sym e₁) ∙ long₁ in
+    let column : (a : ℕ) (v v′ : List ℕ) → length v ≡ 3328 → a + i + n < 208 → v′ ≡ shifted (at + a) n v → Rewrite s (shifted (a + i) n) v v′
+    = λ a v v′ l f q. let k : at + a ≡ s * 208 + (a + i) = omega arith in rw (q, k) (rewrite-shifted s h n (a + i) v l (omega arith)) in
+    let labels = column 16 t t₁ long (omega arith) e₁ in
+    let senders = column 80 t₁ t₂ long₁ (omega arith) e₂ in
+    let values = column 144 t₂ t₃ long₂ (omega arith) e₃ in
+    remove-slots t u s long i n fits (rewrite-then (rewrite-then (rewrite-then labels senders) values) p) count

@@ -1,5 +1,5 @@
 -- What the table's functions read of the slots and change in them. An unused slot holds no task, and there is none above 15.
-use Prim.Native.Nat.{ℕ, _+_}
+use Prim.Native.Nat.{ℕ}
 use mathlib.Core.List.{List, [], _∷_, _++_}
 use lib.ListN.{getD, set, take, replicate}
 use Rattle.wire.specs.Lists.{without}
@@ -43,14 +43,6 @@ slotWithKind k (used t) = held (withKind k t)
 -- the message joins the end of a mailbox that has room
 abbrev pub withMessage : Message → Task → Task
 withMessage m t = withMailbox (take mailboxRoom (t .mailbox ++ (m ∷ []))) t
-
--- message i becomes the one behind it
-abbrev pub withMoved : ℕ → Task → Task
-withMoved i t = withMailbox (set (t .mailbox) i (getD (t .mailbox) (i + 1) noMessage)) t
-
--- the first n messages stay
-abbrev pub truncated : ℕ → Task → Task
-truncated n t = withMailbox (take n (t .mailbox)) t
 
 -- message i goes
 abbrev pub withoutMessage : ℕ → Task → Task

@@ -1,5 +1,5 @@
 -- What the table's private functions read of a slot's words and change in them.
-use Prim.Native.Nat.{ℕ, _+_, _%_, _<_}
+use Prim.Native.Nat.{ℕ, zero, suc, _+_, _%_, _<_}
 use mathlib.Core.Path.{_≡_}
 use mathlib.Core.Logic.{_≢_}
 use mathlib.Core.Bool.{cond}
@@ -21,6 +21,11 @@ pub record Rewrite (s : ℕ) (f : List ℕ → List ℕ) (t u : List ℕ) : Type
 -- the words with m as message i
 unfoldable pub storeMessage : ℕ → Message → List ℕ → List ℕ
 storeMessage i m w = set (set (set w (labelsWord + i) (m .label)) (sendersWord + i) (m .sender)) (valuesWord + i) (m .value)
+
+-- the words with the n from index a on become the ones behind them
+unfoldable pub shifted : ℕ → ℕ → List ℕ → List ℕ
+shifted a zero w = w
+shifted a (suc n) w = shifted (suc a) n (set w a (getD w (suc a) 0))
 
 -- the words with 0 for the first n
 abbrev pub cleared : ℕ → List ℕ → List ℕ

@@ -1,12 +1,12 @@
 // The working storage of a call: sixteen slots of 208 words each, lent to the call and touched by slot and field only.
 // What is not there, a slot above 15, a field of an unused slot or a message past the last, reads as 0 and stays so.
-ghost use Prim.Native.Nat.{_<_, _≤_, _*_, min};
+ghost use Prim.Native.Nat.{_+_, _<_, _≤_, _*_, min};
 ghost use mathlib.Core.Path.{_≡_};
 ghost use lib.ListN.{length, getD, set};
 ghost use Rattle.machine.specs.State.{unused, slotAt, register, withLabel, withSpare, withPc, withRegister};
 ghost use Rattle.table.specs.Table.{window, slotsIn, held};
-ghost use Rattle.table.specs.Words.{fieldWord, Rewrite, storeMessage, cleared};
-ghost use Rattle.table.specs.Change.{taskAt, messageAt, change, slotWithKind, withMoved, truncated, withMessage, withoutMessage, newTask};
+ghost use Rattle.table.specs.Words.{fieldWord, Rewrite, storeMessage, shifted, cleared};
+ghost use Rattle.table.specs.Change.{taskAt, messageAt, change, slotWithKind, withMessage, withoutMessage, newTask};
 
 const SLOTS: usize = 16;
 
@@ -232,38 +232,32 @@ pub fn append(t: &mut [u32; 3328], s: usize, label: u8, sender: u8, value: u32)
     }
 }
 
-// Message i in slot s becomes the one behind it.
-fn move_up(t: &mut [u32; 3328], s: usize, i: usize)
-    requires { ⌜ i < 64 ⌝ }
-    ensures { λ _. ⌜ slotsIn (now (t .exit)) ≡ change s (withMoved i) (slotsIn (now (t .entry))) ⌝ }
+// The n words from index at on become the ones behind them.
+fn shift_down(t: &mut [u32; 3328], at: usize, n: usize)
+    requires { ⌜ at + n < 3328 ⌝ }
+    ensures { λ _. ⌜ now (t .exit) ≡ shifted at n (now (t .entry)) ⌝ }
 {
-    let label = message_label(t, s, i + 1);
-    let sender = message_sender(t, s, i + 1);
-    let value = message_value(t, s, i + 1);
-    store_message(t, s, i, label, sender, value);
-}
-
-// The first n messages in slot s stay.
-fn truncate(t: &mut [u32; 3328], s: usize, n: usize)
-    ensures { λ _. ⌜ slotsIn (now (t .exit)) ≡ change s (truncated n) (slotsIn (now (t .entry))) ⌝ }
-{
-    if n < mailbox_length(t, s) {
-        put(t, s, COUNT, n as u32);
+    let end = at + n;
+    let mut i = at;
+    while i < end {
+        let x = t[i + 1];
+        t[i] = x;
+        i += 1;
     }
 }
 
-// Message i goes, and those behind it move up.
+// Message i goes, and those behind it move up: column by column, so that nothing is tested for each message.
 pub fn remove(t: &mut [u32; 3328], s: usize, i: usize)
     ensures { λ _. ⌜ slotsIn (now (t .exit)) ≡ change s (withoutMessage i) (slotsIn (now (t .entry))) ⌝ }
 {
     let n = mailbox_length(t, s);
     if i < n {
-        let mut j = i;
-        while j + 1 < n {
-            move_up(t, s, j);
-            j += 1;
-        }
-        truncate(t, s, n - 1);
+        let behind = n - 1 - i;
+        let at = start(s) + i;
+        shift_down(t, at + LABELS, behind);
+        shift_down(t, at + SENDERS, behind);
+        shift_down(t, at + VALUES, behind);
+        put(t, s, COUNT, (n - 1) as u32);
     }
 }
 

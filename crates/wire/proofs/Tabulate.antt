@@ -4,8 +4,8 @@ use mathlib.Core.List.{List, [], _∷_, _++_}
 use Prim.Native.Nat.{ℕ, zero, suc, _<_, _≤_}
 use native.Mathlib.Nat.{le-of-suc-le-suc, not-suc-le-zero}
 use native.Mathlib.Omega.{arith}
-use lib.ListN.{length, getD, drop, set}
-use Rattle.wire.specs.Lists.{tabulate}
+use lib.ListN.{length, getD, take, drop, set}
+use Rattle.wire.specs.Lists.{tabulate, without}
 
 module _ {A : Type 0} where
   pub length-tabulate : (n : ℕ) (f : ℕ → A) → length (tabulate n f) ≡ n
@@ -48,3 +48,21 @@ module _ {A : Type 0} where
   tabulate-front zero l d h = refl
   tabulate-front (suc n) [] d h = absurd (not-suc-le-zero h)
   tabulate-front (suc n) (x ∷ l) d h = ap (λ (r : List A). x ∷ r) (tabulate-front n l d (le-of-suc-le-suc h))
+
+  pub take-tabulate : (k n : ℕ) (f : ℕ → A) → k ≤ n → take k (tabulate n f) ≡ tabulate k f
+  unfolding tabulate
+  take-tabulate zero n f h = refl
+  take-tabulate (suc k) zero f h = absurd (not-suc-le-zero h)
+  take-tabulate (suc k) (suc n) f h = ap (λ (r : List A). f 0 ∷ r) (take-tabulate k n (λ i. f (suc i)) (le-of-suc-le-suc h))
+
+  -- element k gone
+  pub tabulate-without : (n : ℕ) (f g : ℕ → A) (k : ℕ) → k ≤ n → ((i : ℕ) → i < k → g i ≡ f i) → ((i : ℕ) → k ≤ i → i < n → g i ≡ f (suc i))
+      → tabulate n g ≡ without k (tabulate (suc n) f)
+  unfolding tabulate
+  tabulate-without n f g zero l below above = tabulate-same n (λ i. f (suc i)) g (λ i h. above i (omega arith) h)
+  tabulate-without zero f g (suc k) l below above = absurd (not-suc-le-zero l)
+  tabulate-without (suc n) f g (suc k) l below above =
+      let first : g 0 ≡ f 0 = below 0 (omega arith) in
+      let rest : tabulate n (λ i. g (suc i)) ≡ without k (tabulate (suc n) (λ i. f (suc i))) =
+      tabulate-without n (λ i. f (suc i)) (λ i. g (suc i)) k (le-of-suc-le-suc l) (λ i h. below (suc i) (omega arith)) (λ i h m. above (suc i) (omega arith) (omega arith)) in
+      cc

@@ -1,5 +1,4 @@
 -- `snapshot::write` meets its contract: what stands ahead of the slots, and the slots behind it.
-use borrow.Author.Needs.{needs}
 use Prim.Native.Nat.{ℕ, _+_, _≤_}
 use mathlib.Core.Path.{sym, ap, _∙_}
 use mathlib.Core.List.{List}

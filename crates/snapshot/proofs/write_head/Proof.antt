@@ -1,5 +1,4 @@
 -- `snapshot::write_head` meets its contract: each part behind those before.
-use borrow.Author.Needs.{needs}
 use Prim.Native.Nat.{_+_, _≤_}
 use mathlib.Core.Path.{refl, _∙_}
 use mathlib.Core.List.{[], _∷_, _++_}

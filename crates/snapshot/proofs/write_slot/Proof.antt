@@ -1,5 +1,4 @@
 -- `snapshot::write_slot` meets its contract: a task that the observer sees, or length 0.
-use borrow.Author.Needs.{needs}
 use mathlib.Core.Path.{refl, sym, _∙_}
 use mathlib.Core.List.{[], _∷_}
 use Prim.Native.Nat.{_≤_}

@@ -1,5 +1,4 @@
 -- `snapshot::write_task` meets its contract: each part behind those before.
-use borrow.Author.Needs.{needs}
 use Prim.Native.Nat.{ℕ, _+_}
 use mathlib.Core.Path.{_≡_, refl, sym, ap, _∙_}
 use mathlib.Core.List.{_∷_, _++_}
