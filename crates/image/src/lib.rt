@@ -155,7 +155,7 @@ fn head_number(image: &[u8]) -> u8
     turn_slot_number(image)
 }
 
-// 0, or 37 and at most 64 messages.
+// 0, or 37 + 6 × k, k at most 64.
 fn is_record_length(l: usize) -> bool
     ensures { λ r. ⌜ r ≡ isRecordLength l ⌝ }
 {
@@ -266,7 +266,7 @@ fn tail_number(image: &[u8]) -> u8
 }
 
 // The higher of two.
-fn higher(a: usize, b: usize) -> usize
+fn max(a: usize, b: usize) -> usize
     ensures { λ r. ⌜ r ≡ max a b ⌝ }
 {
     if a < b { b } else { a }
@@ -283,7 +283,7 @@ fn spares_unused(b: &[u8]) -> bool
         let record = front_record(rest);
         if (record.len() == 0) | (free_from <= slot) {
             let spare = wire::byte_at(record, SPARE_AT) as usize;
-            free_from = higher(free_from, slot + spare + 1);
+            free_from = max(free_from, slot + spare + 1);
             let next = behind(rest);
             rest = next;
             slot += 1;

@@ -20,6 +20,7 @@ pub fn record(image: &[u8], slot: u32) -> &[u8]
     image::record(image, slot as usize)
 }
 
+// What a refused call tells.
 fn refused(number: u8) -> Answer
     ensures { λ r. ⌜ r ≡ refusal number ⌝ }
 {

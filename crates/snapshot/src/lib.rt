@@ -104,7 +104,7 @@ pub fn load(table: &mut [u32; 3328], image: &[u8]) -> u8
     number
 }
 
-// ---- lengths, known before the first byte is written
+// ---- sizes in bytes, known before the first byte is written
 
 // Where the registers and the mailbox of a slot begin, behind the length of its record.
 const REGISTERS_FROM: usize = 2 + image::REGISTERS_AT;
@@ -119,7 +119,7 @@ fn is_shown(table: &[u32; 3328], slot: usize, observer: u8) -> bool
 }
 
 // How many bytes of a message the observer is shown.
-fn message_length(table: &[u32; 3328], slot: usize, i: usize, observer: u8) -> usize
+fn message_size(table: &[u32; 3328], slot: usize, i: usize, observer: u8) -> usize
     ensures { λ r. ⌜ (r ≡ length (shownMessage observer (messageAt (slotsIn (now (table .entry))) slot i))) × (r ≤ 6) ⌝ }
 {
     if label::flows(table::message_label(table, slot, i), observer) {
@@ -130,38 +130,38 @@ fn message_length(table: &[u32; 3328], slot: usize, i: usize, observer: u8) -> u
 }
 
 // How many bytes of a mailbox.
-fn mailbox_length(table: &[u32; 3328], slot: usize, observer: u8) -> usize
+fn mailbox_size(table: &[u32; 3328], slot: usize, observer: u8) -> usize
     ensures { λ r. ⌜ (r ≡ length (encodeItems (shownMessage observer) (taskAt (slotsIn (now (table .entry))) slot .mailbox))) × (r ≤ 384) ⌝ }
 {
     let count = table::mailbox_length(table, slot);
     let mut n: usize = 0;
     let mut i: usize = 0;
     while i < count {
-        n += message_length(table, slot, i, observer);
+        n += message_size(table, slot, i, observer);
         i += 1;
     }
     n
 }
 
 // How many bytes of a slot, with the length in front.
-fn slot_length(table: &[u32; 3328], slot: usize, observer: u8) -> usize
+fn slot_size(table: &[u32; 3328], slot: usize, observer: u8) -> usize
     ensures { λ r. ⌜ (r ≡ length (shownSlot observer (slotAt (slotsIn (now (table .entry))) slot))) × (r ≤ 423) ⌝ }
 {
     if is_shown(table, slot, observer) {
-        MAILBOX_FROM + mailbox_length(table, slot, observer)
+        MAILBOX_FROM + mailbox_size(table, slot, observer)
     } else {
         2
     }
 }
 
 // How many bytes of all slots.
-fn slots_length(table: &[u32; 3328], observer: u8) -> usize
+fn slots_size(table: &[u32; 3328], observer: u8) -> usize
     ensures { λ r. ⌜ (r ≡ length (encodeItems (shownSlot observer) (slotsIn (now (table .entry))))) × (r ≤ 6768) ⌝ }
 {
     let mut n: usize = 0;
     let mut slot: usize = 0;
     while slot < 16 {
-        n += slot_length(table, slot, observer);
+        n += slot_size(table, slot, observer);
         slot += 1;
     }
     n
@@ -169,7 +169,7 @@ fn slots_length(table: &[u32; 3328], observer: u8) -> usize
 
 // ---- write
 
-// The message, where the observer sees it.
+// Writes the message, where the observer sees it: how many bytes.
 fn write_message(out: &mut [u8], table: &[u32; 3328], slot: usize, i: usize, observer: u8) -> usize
     requires { ⌜ length (shownMessage observer (messageAt (slotsIn (now table)) slot i)) ≤ length (now out) ⌝ }
     ensures { λ r. ⌜ (r ≡ length (shownMessage observer (messageAt (slotsIn (now (table .entry))) slot i))) × (r ≤ 6) × (now (out .exit) ≡ overwrite (shownMessage observer (messageAt (slotsIn (now (table .entry))) slot i)) (now (out .entry))) ⌝ }
@@ -185,6 +185,7 @@ fn write_message(out: &mut [u8], table: &[u32; 3328], slot: usize, i: usize, obs
     }
 }
 
+// The six bytes of a message.
 fn put_message(out: &mut [u8], label: u8, sender: u8, value: u32)
     requires { ⌜ 6 ≤ length (now out) ⌝ }
     ensures { λ _. ⌜ now (out .exit) ≡ overwrite (messageBytes (record { label = label; sender = sender; value = value })) (now (out .entry)) ⌝ }
@@ -194,7 +195,7 @@ fn put_message(out: &mut [u8], label: u8, sender: u8, value: u32)
     wire::encode_u32(&mut out[2..], value);
 }
 
-// The messages of a mailbox that the observer sees, each behind the one before.
+// Writes the messages of a mailbox that the observer sees, each behind the one before.
 fn write_mailbox(out: &mut [u8], table: &[u32; 3328], slot: usize, observer: u8)
     requires { ⌜ length (encodeItems (shownMessage observer) (taskAt (slotsIn (now table)) slot .mailbox)) ≤ length (now out) ⌝ }
     ensures { λ _. ⌜ now (out .exit) ≡ overwrite (encodeItems (shownMessage observer) (taskAt (slotsIn (now (table .entry))) slot .mailbox)) (now (out .entry)) ⌝ }
@@ -208,7 +209,7 @@ fn write_mailbox(out: &mut [u8], table: &[u32; 3328], slot: usize, observer: u8)
     }
 }
 
-// The eight registers of a task.
+// Writes the eight registers of a task.
 fn write_registers(out: &mut [u8], table: &[u32; 3328], slot: usize)
     requires { ⌜ (32 ≤ length (now out)) × (length (taskAt (slotsIn (now table)) slot .registers) ≡ 8) ⌝ }
     ensures { λ _. ⌜ now (out .exit) ≡ overwrite (encodeItems (encodeNumber 4) (taskAt (slotsIn (now (table .entry))) slot .registers)) (now (out .entry)) ⌝ }
@@ -220,7 +221,7 @@ fn write_registers(out: &mut [u8], table: &[u32; 3328], slot: usize)
     }
 }
 
-// The length of a record and the fields ahead of the registers.
+// Writes the length of a record and the fields ahead of the registers.
 fn write_fields(out: &mut [u8], size: usize, kind: u8, label: u8, spare: u8, pc: u32)
     requires { ⌜ 7 ≤ length (now out) ⌝ }
     ensures { λ _. ⌜ now (out .exit) ≡ overwrite (encodeNumber 2 size ++ kind ∷ label ∷ spare ∷ encodeNumber 2 pc) (now (out .entry)) ⌝ }
@@ -234,12 +235,12 @@ fn write_fields(out: &mut [u8], size: usize, kind: u8, label: u8, spare: u8, pc:
     out[6] = (pc % 256) as u8;
 }
 
-// A task that the observer sees: the record's length, the fields, the registers and the mailbox.
+// Writes a task that the observer sees: the record's length, the fields, the registers and the mailbox. How many bytes.
 fn write_task(out: &mut [u8], table: &[u32; 3328], slot: usize, observer: u8) -> usize
     requires { ⌜ (length (taskAt (slotsIn (now table)) slot .registers) ≡ 8) × (39 + length (encodeItems (shownMessage observer) (taskAt (slotsIn (now table)) slot .mailbox)) ≤ length (now out)) ⌝ }
     ensures { λ r. ⌜ (r ≡ length (shownTask observer (taskAt (slotsIn (now (table .entry))) slot))) × (r ≤ 423) × (now (out .exit) ≡ overwrite (shownTask observer (taskAt (slotsIn (now (table .entry))) slot)) (now (out .entry))) ⌝ }
 {
-    let n = mailbox_length(table, slot, observer);
+    let n = mailbox_size(table, slot, observer);
     let kind = table::kind(table, slot);
     let label = table::label(table, slot);
     let spare = table::spare(table, slot);
@@ -250,7 +251,7 @@ fn write_task(out: &mut [u8], table: &[u32; 3328], slot: usize, observer: u8) ->
     MAILBOX_FROM + n
 }
 
-// A slot's record, with its length in front; no task that the observer sees is an unused slot.
+// Writes a slot's record behind its length; where the observer sees no task, the slot is written as unused. How many bytes.
 fn write_slot(out: &mut [u8], table: &[u32; 3328], slot: usize, observer: u8) -> usize
     requires { ⌜ length (shownSlot observer (slotAt (slotsIn (now table)) slot)) ≤ length (now out) ⌝ }
     ensures { λ r. ⌜ (r ≡ length (shownSlot observer (slotAt (slotsIn (now (table .entry))) slot))) × (r ≤ 423) × (now (out .exit) ≡ overwrite (shownSlot observer (slotAt (slotsIn (now (table .entry))) slot)) (now (out .entry))) ⌝ }
@@ -263,7 +264,7 @@ fn write_slot(out: &mut [u8], table: &[u32; 3328], slot: usize, observer: u8) ->
     }
 }
 
-// The sixteen slots, each into the part of the output that begins where the one before it ends.
+// Writes the sixteen slots, each into the part of the output that begins where the one before it ends.
 fn write_slots(out: &mut [u8], table: &[u32; 3328], observer: u8)
     requires { ⌜ length (encodeItems (shownSlot observer) (slotsIn (now table))) ≤ length (now out) ⌝ }
     ensures { λ _. ⌜ now (out .exit) ≡ overwrite (encodeItems (shownSlot observer) (slotsIn (now (table .entry)))) (now (out .entry)) ⌝ }
@@ -276,7 +277,7 @@ fn write_slots(out: &mut [u8], table: &[u32; 3328], observer: u8)
     }
 }
 
-// What stands ahead of the slots: version, program length, program, turn slot.
+// Writes what stands ahead of the slots: version, program length, program, turn slot.
 fn write_head(out: &mut [u8], program: &[u8], turn: u8)
     requires { ⌜ 3 + length (now program) + 1 ≤ length (now out) ⌝ }
     ensures { λ _. ⌜ now (out .exit) ≡ overwrite (headBytes (now (program .entry)) turn) (now (out .entry)) ⌝ }
@@ -294,7 +295,7 @@ pub fn write(out: &mut [u8], table: &[u32; 3328], image: &[u8], turn: u8, observ
 {
     let program = image::program(image);
     let head = image::PROGRAM_AT + program.len() + 1;
-    let length = head + slots_length(table, observer);
+    let length = head + slots_size(table, observer);
     if out.len() < length {
         return length;
     }

@@ -12,8 +12,8 @@ use Rattle.wire.proofs.Tabulate.{tabulate-same, take-tabulate, tabulate-without
 use Rattle.machine.specs.State.{withMailbox}
 use Rattle.wire.specs.Lists.{tabulate, without}
 use Rattle.table.specs.Table.{window, messageIn, messagesIn, taskIn}
-use Rattle.table.specs.Words.{Rewrite, shifted}
-use Rattle.table.proofs.Window.{word-at, rewrite-set, rewrite-then}
+use Rattle.table.specs.Words.{SlotStored, shifted}
+use Rattle.table.proofs.Window.{word-at, stored-set, stored-then}
 use Rattle.table.proofs.Task.{count-stored}
 use Rattle.table.proofs.Message.{message-words}
 
@@ -59,17 +59,17 @@ shifted-inside (suc n) a w j l h long =
 -- ---- within a slot
 
 module _ (s : ℕ) (h : s < 16) where
-  pub rewrite-shifted : (n a : ℕ) (t : List ℕ) → length t ≡ 3328 → a + n < 208 → Rewrite s (shifted a n) t (shifted (s * 208 + a) n t)
+  pub stored-shifted : (n a : ℕ) (t : List ℕ) → length t ≡ 3328 → a + n < 208 → SlotStored s (shifted a n) t (shifted (s * 208 + a) n t)
   unfolding shifted
-  rewrite-shifted zero a t full fits = record { here = λ _. refl; other = λ j ne. refl }
-  rewrite-shifted (suc n) a t full fits =
+  stored-shifted zero a t full fits = record { here = λ _. refl; other = λ j ne. refl }
+  stored-shifted (suc n) a t full fits =
       let here : min s 16 ≡ s = omega arith in
       let at : suc (s * 208 + a) ≡ s * 208 + suc a = omega arith in
       let x = getD t (suc (s * 208 + a)) 0 in
       let u = set t (s * 208 + a) x in
       let x-is : x ≡ getD (window t s) (suc a) 0 = rw at (ap (λ (k : ℕ). getD t (k * 208 + suc a) 0) (sym here) ∙ word-at t s full (suc a) (omega arith)) in
-      let rest = subst (λ (k : ℕ). Rewrite s (shifted (suc a) n) u (shifted k n u)) (sym at) (rewrite-shifted n (suc a) u (length-set t (s * 208 + a) x ∙ full) (omega arith)) in
-      let r = rewrite-then (rewrite-set t u s a x full (omega arith) (rw here)) rest in
+      let rest = subst (λ (k : ℕ). SlotStored s (shifted (suc a) n) u (shifted k n u)) (sym at) (stored-shifted n (suc a) u (length-set t (s * 208 + a) x ∙ full) (omega arith)) in
+      let r = stored-then (stored-set t u s a x full (omega arith) (rw here)) rest in
       record {
         here = λ l. r .here l ∙ ap (λ (y : ℕ). shifted (suc a) n (set (window t s) a y)) x-is;
         other = r .other;

@@ -15,7 +15,7 @@ use Rattle.wire.proofs.Tabulate.{length-tabulate, getD-tabulate, tabulate-same,
 use Rattle.machine.specs.State.{Task, Slot, unused, used, slotAt}
 use Rattle.table.specs.Table.{window, messageIn, messagesIn, taskIn, held, slotsIn}
 use Rattle.table.specs.Change.{noMessage, noTask, taskOr, taskAt, messageAt, changeSlot, change}
-use Rattle.table.specs.Words.{fieldWord, Rewrite}
+use Rattle.table.specs.Words.{fieldWord, SlotStored}
 use Rattle.table.proofs.Change.{length-slots}
 use Rattle.table.proofs.Window.{window-length, window-past}
 
@@ -42,7 +42,7 @@ held-change g k e =
     let same : eqb (g k .kind) 0 ≡ eqb (k .kind) 0 = rw e in
     split (eqb (k .kind) 0) (λ z. rw (same, z)) (λ z. rw (same, z))
 
-module _ {s : ℕ} {f : List ℕ → List ℕ} {t u : List ℕ} (p : Rewrite s f t u) where
+module _ {s : ℕ} {f : List ℕ → List ℕ} {t u : List ℕ} (p : SlotStored s f t u) where
   -- no other slot has changed
   pub slots-set : (x : Slot) → (s < 16 → held (taskIn (f (window t s))) ≡ x) → slotsIn u ≡ set (slotsIn t) s x
   unfolding slotsIn

@@ -10,14 +10,14 @@ use Rattle.wire.proofs.Tabulate.{length-tabulate}
 use Rattle.machine.specs.State.{Message, Task, used, slotAt, withMailbox}
 use Rattle.table.specs.Table.{window, messageIn, messagesIn, taskIn, slotsIn}
 use Rattle.table.specs.Change.{taskAt, change, withMessage, withoutMessage}
-use Rattle.table.specs.Words.{Rewrite, storeMessage, shifted}
-use Rattle.table.proofs.Window.{rewrite-then}
+use Rattle.table.specs.Words.{SlotStored, storeMessage, shifted}
+use Rattle.table.proofs.Window.{stored-then}
 use Rattle.table.proofs.Task.{count-stored}
 use Rattle.table.proofs.Message.{messages-stored, message-stored}
 use Rattle.table.proofs.Change.{change-same}
 use Rattle.table.proofs.Slots.{slots-change, used-task}
 use Rattle.table.proofs.Mailbox.{take-append}
-use Rattle.table.proofs.Shift.{length-shifted, rewrite-shifted, message-removed}
+use Rattle.table.proofs.Shift.{length-shifted, stored-shifted, message-removed}
 
 length-messages : (w : List ℕ) → length (messagesIn w) ≡ 64
 unfolding messagesIn
@@ -33,7 +33,7 @@ module _ (t u : List ℕ) (s : ℕ) (full : length t ≡ 3328) where
   abbrev w : List ℕ
   w = window t s
 
-  remove-slots : (i n : ℕ) → i + n < 64 → Rewrite s (λ v. set (shifted (144 + i) n (shifted (80 + i) n (shifted (16 + i) n v))) 12 (i + n)) t u
+  remove-slots : (i n : ℕ) → i + n < 64 → SlotStored s (λ v. set (shifted (144 + i) n (shifted (80 + i) n (shifted (16 + i) n v))) 12 (i + n)) t u
       → suc (i + n) ≡ length (taskAt (slotsIn t) s .mailbox) → slotsIn u ≡ change s (withoutMessage i) (slotsIn t)
   remove-slots i n fits p count =
       let removed : Task → Task = withMailbox (without i (take (suc (i + n)) (messagesIn w))) in
@@ -45,7 +45,7 @@ module _ (t u : List ℕ) (s : ℕ) (full : length t ≡ 3328) where
       ap (λ (ms : List Message). withMailbox (without i ms) k) (rw m (sym (take-length-take (getD w 12 0) (messagesIn w))) ∙ sym b))
 
   module _ (i : ℕ) (m : Message) (small : i < 64) (label : m .label < 256) (sender : m .sender < 256) where
-    pub append-slots : Rewrite s (λ v. set (storeMessage i m v) 12 (i + 1)) t u → i ≡ length (taskAt (slotsIn t) s .mailbox)
+    pub append-slots : SlotStored s (λ v. set (storeMessage i m v) 12 (i + 1)) t u → i ≡ length (taskAt (slotsIn t) s .mailbox)
         → slotsIn u ≡ change s (withMessage m) (slotsIn t)
     unfolding storeMessage
     append-slots p count =
@@ -63,15 +63,15 @@ module _ (t u : List ℕ) (s : ℕ) (full : length t ≡ 3328) where
 
 -- the stores of a removal, n messages behind message i
 pub remove-stores : (t t₁ t₂ t₃ u : List ℕ) (s i n at : ℕ) → s < 16 → i + n < 64 → at ≡ s * 208 + i → length t₃ ≡ 3328
-    → t₁ ≡ shifted (at + 16) n t → t₂ ≡ shifted (at + 80) n t₁ → t₃ ≡ shifted (at + 144) n t₂ → Rewrite s (λ w. set w 12 (i + n)) t₃ u
+    → t₁ ≡ shifted (at + 16) n t → t₂ ≡ shifted (at + 80) n t₁ → t₃ ≡ shifted (at + 144) n t₂ → SlotStored s (λ w. set w 12 (i + n)) t₃ u
     → suc (i + n) ≡ length (taskAt (slotsIn t) s .mailbox) → slotsIn u ≡ change s (withoutMessage i) (slotsIn t)
 remove-stores t t₁ t₂ t₃ u s i n at h fits e long₃ e₁ e₂ e₃ p count =
     let long₂ : length t₂ ≡ 3328 = sym (length-shifted n (at + 144) t₂) ∙ ap length (sym e₃) ∙ long₃ in
     let long₁ : length t₁ ≡ 3328 = sym (length-shifted n (at + 80) t₁) ∙ ap length (sym e₂) ∙ long₂ in
     let long : length t ≡ 3328 = sym (length-shifted n (at + 16) t) ∙ ap length (sym e₁) ∙ long₁ in
-    let column : (a : ℕ) (v v′ : List ℕ) → length v ≡ 3328 → a + i + n < 208 → v′ ≡ shifted (at + a) n v → Rewrite s (shifted (a + i) n) v v′
-    = λ a v v′ l f q. let k : at + a ≡ s * 208 + (a + i) = omega arith in rw (q, k) (rewrite-shifted s h n (a + i) v l (omega arith)) in
+    let column : (a : ℕ) (v v′ : List ℕ) → length v ≡ 3328 → a + i + n < 208 → v′ ≡ shifted (at + a) n v → SlotStored s (shifted (a + i) n) v v′
+    = λ a v v′ l f q. let k : at + a ≡ s * 208 + (a + i) = omega arith in rw (q, k) (stored-shifted s h n (a + i) v l (omega arith)) in
     let labels = column 16 t t₁ long (omega arith) e₁ in
     let senders = column 80 t₁ t₂ long₁ (omega arith) e₂ in
     let values = column 144 t₂ t₃ long₂ (omega arith) e₃ in
-    remove-slots t u s long i n fits (rewrite-then (rewrite-then (rewrite-then labels senders) values) p) count
+    remove-slots t u s long i n fits (stored-then (stored-then (stored-then labels senders) values) p) count

@@ -9,7 +9,7 @@ use native.Mathlib.Omega.{arith}
 use lib.ListN.{length, getD, take, drop, set, length-append, length-replicate, length-take, length-drop, drop-of-length-le, List·getD-eq-default}
 use lib.Seq.{getD-take, getD-drop, take-nil, drop-set-add, drop-set-lt, take-set-le, take-set-lt, set-out}
 use Rattle.table.specs.Table.{window}
-use Rattle.table.specs.Words.{Rewrite, cleared}
+use Rattle.table.specs.Words.{SlotStored, cleared}
 
 module _ (t : List ℕ) (s : ℕ) (full : length t ≡ 3328) where
   pub window-length : s < 16 → length (window t s) ≡ 208
@@ -43,8 +43,8 @@ window-other t s i x j h ne =
     let e : s * 208 + i ≡ j * 208 + k = omega arith in
     rw (e, drop-set-add) (take-set-le 208 (drop (j * 208) t) k x (omega arith)))
 
-pub rewrite-set : (t u : List ℕ) (s i x : ℕ) → length t ≡ 3328 → i < 208 → u ≡ set t (min s 16 * 208 + i) x → Rewrite s (λ w. set w i x) t u
-rewrite-set t u s i x full h stored =
+pub stored-set : (t u : List ℕ) (s i x : ℕ) → length t ≡ 3328 → i < 208 → u ≡ set t (min s 16 * 208 + i) x → SlotStored s (λ w. set w i x) t u
+stored-set t u s i x full h stored =
     dite (decLt s 16)
     (λ l.
     let e : min s 16 ≡ s = omega arith in
@@ -53,17 +53,17 @@ rewrite-set t u s i x full h stored =
     rw (stored, set-out t (min s 16 * 208 + i) x (omega arith)) (record { here = λ h. absurd (omega arith); other = λ j ne. refl }))
 
 -- one after another
-pub rewrite-then : {s : ℕ} {f g : List ℕ → List ℕ} {t u v : List ℕ} → Rewrite s f t u → Rewrite s g u v → Rewrite s (λ w. g (f w)) t v
-rewrite-then {s} {f} {g} p q = record { here = λ h. q .here h ∙ ap g (p .here h); other = λ j ne. q .other j ne ∙ p .other j ne }
+pub stored-then : {s : ℕ} {f g : List ℕ → List ℕ} {t u v : List ℕ} → SlotStored s f t u → SlotStored s g u v → SlotStored s (λ w. g (f w)) t v
+stored-then {s} {f} {g} p q = record { here = λ h. q .here h ∙ ap g (p .here h); other = λ j ne. q .other j ne ∙ p .other j ne }
 
 -- the loop that clears words
-pub cleared-none : (t : List ℕ) (s : ℕ) → Rewrite s (cleared 0) t t
+pub cleared-none : (t : List ℕ) (s : ℕ) → SlotStored s (cleared 0) t t
 cleared-none t s = record { here = λ _. refl; other = λ j ne. refl }
 
-pub cleared-more : {s i : ℕ} {t u v : List ℕ} → i < 208 → length u ≡ 3328 → Rewrite s (cleared i) t u → Rewrite s (λ w. set w i 0) u v
-    → Rewrite s (cleared (i + 1)) t v
+pub cleared-more : {s i : ℕ} {t u v : List ℕ} → i < 208 → length u ≡ 3328 → SlotStored s (cleared i) t u → SlotStored s (λ w. set w i 0) u v
+    → SlotStored s (cleared (i + 1)) t v
 cleared-more {s} {i} {t} {u} h full p q =
-    let r = rewrite-then p q in
+    let r = stored-then p q in
     record {
       here = λ l.
           let long : length (cleared i (window t s)) ≡ 208 = rw (← p .here l) (window-length u s full l) in

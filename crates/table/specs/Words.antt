@@ -14,7 +14,7 @@ abbrev pub fieldWord : List ℕ → ℕ → ℕ
 fieldWord w i = cond (eqb (getD w kindWord 0 % 256) 0) 0 (getD w i 0)
 
 -- u is the table t with f of the words of slot s
-pub record Rewrite (s : ℕ) (f : List ℕ → List ℕ) (t u : List ℕ) : Type 0 where
+pub record SlotStored (s : ℕ) (f : List ℕ → List ℕ) (t u : List ℕ) : Type 0 where
   pub here : s < 16 → window u s ≡ f (window t s)
   pub other : (j : ℕ) → j ≢ s → window u j ≡ window t j
 
@@ -22,7 +22,7 @@ pub record Rewrite (s : ℕ) (f : List ℕ → List ℕ) (t u : List ℕ) : Type
 unfoldable pub storeMessage : ℕ → Message → List ℕ → List ℕ
 storeMessage i m w = set (set (set w (labelsWord + i) (m .label)) (sendersWord + i) (m .sender)) (valuesWord + i) (m .value)
 
--- the words with the n from index a on become the ones behind them
+-- the words, each of the n from index a on replaced by the one behind it
 unfoldable pub shifted : ℕ → ℕ → List ℕ → List ℕ
 shifted a zero w = w
 shifted a (suc n) w = shifted (suc a) n (set w a (getD w (suc a) 0))

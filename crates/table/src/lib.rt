@@ -5,7 +5,7 @@ ghost use mathlib.Core.Path.{_≡_};
 ghost use lib.ListN.{length, getD, set};
 ghost use Rattle.machine.specs.State.{unused, slotAt, register, withLabel, withSpare, withPc, withRegister};
 ghost use Rattle.table.specs.Table.{window, slotsIn, held};
-ghost use Rattle.table.specs.Words.{fieldWord, Rewrite, storeMessage, shifted, cleared};
+ghost use Rattle.table.specs.Words.{fieldWord, SlotStored, storeMessage, shifted, cleared};
 ghost use Rattle.table.specs.Change.{taskAt, messageAt, change, slotWithKind, withMessage, withoutMessage, newTask};
 
 const SLOTS: usize = 16;
@@ -35,7 +35,7 @@ const VALUES: usize = 144;
 
 // ---- words
 
-// The word at an index of the table, which is known to be 3,328 words long where it is passed on as a slice.
+// The word at an index. It takes a slice, because the length of a slice is known.
 fn fetch(t: &[u32], at: usize) -> u32
     ensures { λ r. ⌜ r ≡ getD (now (t .entry)) at 0 ⌝ }
 {
@@ -73,7 +73,7 @@ fn word(t: &[u32; 3328], s: usize, i: usize) -> u32
 // Word i of slot s gets x.
 fn put(t: &mut [u32; 3328], s: usize, i: usize, x: u32)
     requires { ⌜ i < 208 ⌝ }
-    ensures { λ _. ⌜ (length (now (t .entry)) ≡ 3328) × Rewrite s (λ w. set w i x) (now (t .entry)) (now (t .exit)) ⌝ }
+    ensures { λ _. ⌜ (length (now (t .entry)) ≡ 3328) × SlotStored s (λ w. set w i x) (now (t .entry)) (now (t .exit)) ⌝ }
 {
     store(t, start(s) + i, x);
 }
@@ -214,7 +214,7 @@ pub fn set_register(t: &mut [u32; 3328], s: usize, a: usize, x: u32)
 // Message i of slot s is written, also where the mailbox ends before it.
 fn store_message(t: &mut [u32; 3328], s: usize, i: usize, label: u8, sender: u8, value: u32)
     requires { ⌜ i < 64 ⌝ }
-    ensures { λ _. ⌜ (length (now (t .entry)) ≡ 3328) × Rewrite s (storeMessage i (record { label = label; sender = sender; value = value })) (now (t .entry)) (now (t .exit)) ⌝ }
+    ensures { λ _. ⌜ (length (now (t .entry)) ≡ 3328) × SlotStored s (storeMessage i (record { label = label; sender = sender; value = value })) (now (t .entry)) (now (t .exit)) ⌝ }
 {
     put(t, s, LABELS + i, label as u32);
     put(t, s, SENDERS + i, sender as u32);
@@ -232,7 +232,7 @@ pub fn append(t: &mut [u32; 3328], s: usize, label: u8, sender: u8, value: u32)
     }
 }
 
-// The n words from index at on become the ones behind them.
+// Each of the n words from index at on is replaced by the one behind it.
 fn shift_down(t: &mut [u32; 3328], at: usize, n: usize)
     requires { ⌜ at + n < 3328 ⌝ }
     ensures { λ _. ⌜ now (t .exit) ≡ shifted at n (now (t .entry)) ⌝ }
@@ -246,7 +246,7 @@ fn shift_down(t: &mut [u32; 3328], at: usize, n: usize)
     }
 }
 
-// Message i goes, and those behind it move up: column by column, so that nothing is tested for each message.
+// Message i goes, and those behind it move down by one: column by column, so that nothing is tested for each message.
 pub fn remove(t: &mut [u32; 3328], s: usize, i: usize)
     ensures { λ _. ⌜ slotsIn (now (t .exit)) ≡ change s (withoutMessage i) (slotsIn (now (t .entry))) ⌝ }
 {
@@ -263,7 +263,7 @@ pub fn remove(t: &mut [u32; 3328], s: usize, i: usize)
 
 // ---- changing a slot
 
-// Slot s becomes unused.
+// Slot s becomes unused. Its other words stay, and nothing reads them.
 pub fn clear(t: &mut [u32; 3328], s: usize)
     ensures { λ _. ⌜ slotsIn (now (t .exit)) ≡ set (slotsIn (now (t .entry))) s unused ⌝ }
 {
@@ -272,7 +272,7 @@ pub fn clear(t: &mut [u32; 3328], s: usize)
 
 // Every word of slot s ahead of its messages becomes 0.
 fn clear_fields(t: &mut [u32; 3328], s: usize)
-    ensures { λ _. ⌜ Rewrite s (cleared 16) (now (t .entry)) (now (t .exit)) ⌝ }
+    ensures { λ _. ⌜ SlotStored s (cleared 16) (now (t .entry)) (now (t .exit)) ⌝ }
 {
     let mut i = 0;
     while i < LABELS {
@@ -281,7 +281,7 @@ fn clear_fields(t: &mut [u32; 3328], s: usize)
     }
 }
 
-// Slot s holds a new task, with registers 0 and no messages, and no other; kind 0 is none.
+// Slot s holds a new task in place of what it held, with registers 0 and no messages; kind 0 leaves it unused.
 pub fn put_task(t: &mut [u32; 3328], s: usize, kind: u8, label: u8, spare: u8, pc: u32)
     ensures { λ _. ⌜ slotsIn (now (t .exit)) ≡ set (slotsIn (now (t .entry))) s (held (newTask kind label spare pc)) ⌝ }
 {

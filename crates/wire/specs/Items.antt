@@ -1,4 +1,4 @@
--- Items of a fixed width, one after another.
+-- Items one after another; those that are read have a fixed width.
 use Prim.Native.Nat.{ℕ, zero, suc}
 use mathlib.Core.List.{List, [], _∷_, _++_}
 use lib.ListN.{drop}

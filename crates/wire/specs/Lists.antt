@@ -1,4 +1,4 @@
--- Tests over numbers and lists: each number below a bound, each element, the elements that pass.
+-- Lists by index, and tests over numbers and lists: each number below a bound, each element, the elements that pass.
 use Prim.Native.Nat.{ℕ, zero, suc, _<_}
 use mathlib.Core.Bool.{Bool, true, cond, _&&_}
 use mathlib.Core.List.{List, [], _∷_, _++_}
@@ -39,7 +39,7 @@ module _ {A : Type 0} where
   dropFirst p [] = []
   dropFirst p (x ∷ xs) = cond (p x) xs (x ∷ dropFirst p xs)
 
--- every element is a byte
+-- x is a byte, and every element of a list is
 abbrev pub IsByte : ℕ → Type 0
 IsByte x = x < 256
 

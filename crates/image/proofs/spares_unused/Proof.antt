@@ -28,7 +28,7 @@ loop-again c =
     let low = c .before .before .before .before .before .loop-test .taken in (
       omega arith,
       rw (skip-next, ← h .inv .1) (c .behind .ensures),
-      rw (free-at b (h .slot) low, ← h .inv .1, ← h .inv .2, ← record-is, ← c .before .before .byte-at .ensures) (c .before .higher .ensures),
+      rw (free-at b (h .slot) low, ← h .inv .1, ← h .inv .2, ← record-is, ← c .before .before .byte-at .ensures) (c .before .max .ensures),
       each-more (h .slot) (isClear (slotsOf 16 b)) (h .inv .3) (rw (clear-at b (h .slot) low, ← h .inv .1, ← h .inv .2, ← record-is) (c .before .before .before .if1 .taken)),
     )
 

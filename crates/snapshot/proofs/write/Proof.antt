@@ -20,7 +20,7 @@ returns c =
     let bytes = snapshotBytes (now (a .table)) (now (a .image)) (a .turn) (a .observer) in
     let size = snapshot-length (now (a .table)) (now (a .image)) (a .turn) (a .observer) in
     let program = ap length (c .before .before .program .ensures) in
-    (omega (arith, size, program, c .before .slots-length .ensures .0), sym (written-short bytes (now (a .out)) (omega (arith, size, program, c .before .slots-length .ensures .0))))
+    (omega (arith, size, program, c .before .slots-size .ensures .0), sym (written-short bytes (now (a .out)) (omega (arith, size, program, c .before .slots-size .ensures .0))))
 
 returns-2 : tie.Need-returns-2
 returns-2 c =
@@ -33,8 +33,8 @@ returns-2 c =
     let program = b .before .program .ensures in
     let head = rw program at (c .before .before .before .before .before .before .write-head .ensures) in
     let whole = lent (headBytes (programOf image) (a .turn)) (encodeItems (shownSlot (a .observer)) (slotsIn words)) (now (a .out)) _ (head-length (programOf image) (a .turn) ∙ ap (λ (l : List ℕ). 3 + length l + 1) (sym program)) head (c .before .before .write-slots .ensures) in
-    let room : length bytes ≤ length (now (a .out)) = omega (arith, size, ap length program, b .slots-length .ensures .0) in
-    (omega (arith, size, ap length program, b .slots-length .ensures .0), whole ∙ rw (← snapshot-parts words image (a .turn) (a .observer)) (sym (written-fits bytes (now (a .out)) room)))
+    let room : length bytes ≤ length (now (a .out)) = omega (arith, size, ap length program, b .slots-size .ensures .0) in
+    (omega (arith, size, ap length program, b .slots-size .ensures .0), whole ∙ rw (← snapshot-parts words image (a .turn) (a .observer)) (sym (written-fits bytes (now (a .out)) room)))
 
 pub write-spec : {M : Type 1} → statement M
 write-spec =

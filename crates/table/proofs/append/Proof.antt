@@ -9,7 +9,7 @@ use lib.Seq.{take-at}
 use Rattle.machine.specs.State.{Message}
 use Rattle.table.specs.Table.{slotsIn}
 use Rattle.table.specs.Change.{taskAt}
-use Rattle.table.proofs.Window.{rewrite-then}
+use Rattle.table.proofs.Window.{stored-then}
 use Rattle.table.proofs.Mailbox.{mailbox-kept}
 use Rattle.table.proofs.Stores.{append-slots}
 use Rattle.table.proofs.append.Statement.{statement}
@@ -22,7 +22,7 @@ returns c =
     let a = b .before .before .before .before .before .args in
     append-slots (now (a .t)) (c .put .last .0) (a .s) (b .store-message .ensures .0) (n .result)
     (record { label = a .label; sender = a .sender; value = a .value }) (omega arith) (omega arith) (omega arith)
-    (rewrite-then (b .store-message .ensures .1) (c .put .ensures .1)) (n .ensures .0)
+    (stored-then (b .store-message .ensures .1) (c .put .ensures .1)) (n .ensures .0)
 
 returns-2 : tie.Need-returns-2
 returns-2 c =

@@ -2,13 +2,13 @@
 use Prim.Native.Nat.{_≤_, _-_}
 use mathlib.Core.Path.{_≡_}
 use native.Mathlib.Omega.{arith}
-use Rattle.table.specs.Words.{Rewrite, cleared}
+use Rattle.table.specs.Words.{SlotStored, cleared}
 use Rattle.table.proofs.Window.{cleared-none, cleared-more}
 use Rattle.table.proofs.clear_fields.Statement.{statement}
 use Rattle.table.proofs.clear_fields.Tie as tie
 
 abbrev Inv-loop : tie.InvT-loop
-Inv-loop t₀ s i₀ t i = (i ≤ 16) × Rewrite s (cleared i) t₀ t
+Inv-loop t₀ s i₀ t i = (i ≤ 16) × SlotStored s (cleared i) t₀ t
 
 abbrev μ-loop : tie.MeasureT-loop
 μ-loop t₀ s i₀ t i = 16 - i

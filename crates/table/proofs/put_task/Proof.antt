@@ -4,7 +4,7 @@ use native.Mathlib.Omega.{arith}
 use denote.Ref.{now}
 use Rattle.table.specs.Table.{window, held}
 use Rattle.table.specs.Change.{newTask}
-use Rattle.table.proofs.Window.{rewrite-then}
+use Rattle.table.proofs.Window.{stored-then}
 use Rattle.table.proofs.Task.{task-stored}
 use Rattle.table.proofs.Slots.{slots-set}
 use Rattle.table.proofs.put_task.Statement.{statement}
@@ -18,9 +18,9 @@ returns c =
     let cleared = kind .before .before in
     let a = cleared .before .before .args in
     slots-set
-    (rewrite-then
-    (rewrite-then
-    (rewrite-then (rewrite-then (cleared .clear-fields .ensures) (kind .put .ensures .1)) (label .put2 .ensures .1))
+    (stored-then
+    (stored-then
+    (stored-then (stored-then (cleared .clear-fields .ensures) (kind .put .ensures .1)) (label .put2 .ensures .1))
     (spare .put3 .ensures .1))
     (c .put4 .ensures .1))
     (held (newTask (a .kind) (a .label) (a .spare) (a .pc)))

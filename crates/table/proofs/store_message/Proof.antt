@@ -2,7 +2,7 @@
 use borrow.Author.Needs.{needs}
 use native.Mathlib.Omega.{arith}
 use Rattle.table.specs.Words.{storeMessage}
-use Rattle.table.proofs.Window.{rewrite-then}
+use Rattle.table.proofs.Window.{stored-then}
 use Rattle.table.proofs.store_message.Statement.{statement}
 use Rattle.table.proofs.store_message.Tie as tie
 
@@ -10,7 +10,7 @@ returns : tie.Need-returns
 unfolding storeMessage
 returns c =
     let p1 = c .before .before .before .before .put .ensures in
-    (p1 .0, rewrite-then (rewrite-then (p1 .1) (c .before .before .put2 .ensures .1)) (c .put3 .ensures .1))
+    (p1 .0, stored-then (stored-then (p1 .1) (c .before .before .put2 .ensures .1)) (c .put3 .ensures .1))
 
 pub store-message-spec : {M : Type 1} → statement M
 store-message-spec =

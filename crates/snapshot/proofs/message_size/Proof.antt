@@ -1,4 +1,4 @@
--- `snapshot::message_length` meets its contract: six bytes, or none of a message that is left out.
+-- `snapshot::message_size` meets its contract: six bytes, or none of a message that is left out.
 use Prim.Native.Nat.{ℕ}
 use mathlib.Core.Path.{_≡_, sym, ap, _∙_}
 use mathlib.Core.Bool.{true, false}
@@ -9,8 +9,8 @@ use Rattle.label.specs.Label.{flows}
 use Rattle.table.specs.Table.{slotsIn}
 use Rattle.table.specs.Change.{messageAt}
 use Rattle.snapshot.proofs.Writing.{message-shown, message-hidden}
-use Rattle.snapshot.proofs.message_length.Statement.{statement}
-use Rattle.snapshot.proofs.message_length.Tie as tie
+use Rattle.snapshot.proofs.message_size.Statement.{statement}
+use Rattle.snapshot.proofs.message_size.Tie as tie
 
 returns : tie.Need-returns
 returns c =
@@ -28,5 +28,5 @@ returns-2 c =
     = ap (λ (l : ℕ). flows l (a .observer)) (sym (c .before .before .message-label .ensures)) ∙ sym (c .before .flows .ensures) ∙ c .if1 .left in
     (sym (ap length (message-hidden (a .observer) m hidden)), omega arith)
 
-pub message-length-spec : {M : Type 1} → statement M
-message-length-spec = tie.close (tie.spec (λ c κs. tt) (λ c κs. tt) returns returns-2)
+pub message-size-spec : {M : Type 1} → statement M
+message-size-spec = tie.close (tie.spec (λ c κs. tt) (λ c κs. tt) returns returns-2)

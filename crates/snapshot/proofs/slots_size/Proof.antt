@@ -1,4 +1,4 @@
--- `snapshot::slots_length` meets its contract: the first slots are counted.
+-- `snapshot::slots_size` meets its contract: the first slots are counted.
 use Prim.Native.Nat.{_+_, _-_, _*_, _<_, _≤_}
 use mathlib.Core.Path.{_≡_, sym}
 use native.Mathlib.Nat.{zero-add}
@@ -11,8 +11,8 @@ use Rattle.machine.specs.State.{unused}
 use Rattle.table.specs.Table.{slotsIn}
 use Rattle.table.proofs.Change.{length-slots}
 use Rattle.snapshot.specs.Writing.{shownSlot}
-use Rattle.snapshot.proofs.slots_length.Statement.{statement}
-use Rattle.snapshot.proofs.slots_length.Tie as tie
+use Rattle.snapshot.proofs.slots_size.Statement.{statement}
+use Rattle.snapshot.proofs.slots_size.Tie as tie
 
 abbrev Inv-loop : tie.InvT-loop
 Inv-loop table observer n₀ slot₀ n slot =
@@ -27,7 +27,7 @@ loop-again c =
     let a = c .before .before .before .args in
     let h = c .before .before .loop in
     let more : h .slot < length (slotsIn (now (a .table))) = omega (arith, length-slots (now (a .table))) in
-    (omega arith, omega arith, count-next (shownSlot (a .observer)) (slotsIn (now (a .table))) (h .slot) (h .n) (c .slot-length .result) unused more (c .slot-length .ensures .0) (h .inv .2))
+    (omega arith, omega arith, count-next (shownSlot (a .observer)) (slotsIn (now (a .table))) (h .slot) (h .n) (c .slot-size .result) unused more (c .slot-size .ensures .0) (h .inv .2))
 
 returns : tie.Need-returns Inv-loop μ-loop
 returns c =
@@ -35,8 +35,8 @@ returns c =
     let h = c .before .loop in
     (count-all (shownSlot (a .observer)) (slotsIn (now (a .table))) (h .slot) (h .n) (omega (arith, length-slots (now (a .table)))) (h .inv .2), omega arith)
 
-pub slots-length-spec : {M : Type 1} → statement M
-slots-length-spec =
+pub slots-size-spec : {M : Type 1} → statement M
+slots-size-spec =
     tie.close
     (tie.spec
     Inv-loop

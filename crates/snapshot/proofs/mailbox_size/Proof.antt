@@ -1,4 +1,4 @@
--- `snapshot::mailbox_length` meets its contract: the first i messages are counted.
+-- `snapshot::mailbox_size` meets its contract: the first i messages are counted.
 use Prim.Native.Nat.{_+_, _-_, _*_, _≤_}
 use mathlib.Core.Path.{_≡_, sym}
 use native.Mathlib.Nat.{zero-add}
@@ -10,8 +10,8 @@ use Rattle.wire.proofs.Items.{count-next, count-all}
 use Rattle.table.specs.Table.{slotsIn}
 use Rattle.table.specs.Change.{noMessage, taskAt}
 use Rattle.snapshot.specs.Writing.{shownMessage}
-use Rattle.snapshot.proofs.mailbox_length.Statement.{statement}
-use Rattle.snapshot.proofs.mailbox_length.Tie as tie
+use Rattle.snapshot.proofs.mailbox_size.Statement.{statement}
+use Rattle.snapshot.proofs.mailbox_size.Tie as tie
 
 abbrev Inv-loop : tie.InvT-loop
 Inv-loop table slot observer count n₀ i₀ n i =
@@ -27,7 +27,7 @@ loop-again c =
     let a = c .before .before .before .before .args in
     let h = c .before .before .loop in
     let ms = taskAt (slotsIn (now (a .table))) (a .slot) .mailbox in
-    (omega arith, omega arith, count-next (shownMessage (a .observer)) ms (h .i) (h .n) (c .message-length .result) noMessage (omega arith) (c .message-length .ensures .0) (h .inv .2))
+    (omega arith, omega arith, count-next (shownMessage (a .observer)) ms (h .i) (h .n) (c .message-size .result) noMessage (omega arith) (c .message-size .ensures .0) (h .inv .2))
 
 returns : tie.Need-returns Inv-loop μ-loop
 returns c =
@@ -36,8 +36,8 @@ returns c =
     let ms = taskAt (slotsIn (now (a .table))) (a .slot) .mailbox in
     (count-all (shownMessage (a .observer)) ms (h .i) (h .n) (omega arith) (h .inv .2), omega arith)
 
-pub mailbox-length-spec : {M : Type 1} → statement M
-mailbox-length-spec =
+pub mailbox-size-spec : {M : Type 1} → statement M
+mailbox-size-spec =
     tie.close
     (tie.spec
     Inv-loop

@@ -1,4 +1,4 @@
--- `snapshot::slot_length` meets its contract: a task that the observer sees has a record, and no other.
+-- `snapshot::slot_size` meets its contract: a task that the observer sees has a record, and no other.
 use Prim.Native.Nat.{ℕ, _+_}
 use mathlib.Core.Path.{sym, ap, _∙_}
 use native.Mathlib.Omega.{arith}
@@ -9,8 +9,8 @@ use Rattle.table.specs.Table.{slotsIn}
 use Rattle.table.specs.Change.{taskAt}
 use Rattle.table.proofs.Slots.{used-registers}
 use Rattle.snapshot.proofs.Writing.{task-length, shown-used, slot-shown, slot-hidden}
-use Rattle.snapshot.proofs.slot_length.Statement.{statement}
-use Rattle.snapshot.proofs.slot_length.Tie as tie
+use Rattle.snapshot.proofs.slot_size.Statement.{statement}
+use Rattle.snapshot.proofs.slot_size.Tie as tie
 
 returns : tie.Need-returns
 returns c =
@@ -20,7 +20,7 @@ returns c =
     let shown = sym (c .before .before .is-shown .ensures) ∙ c .before .if1 .taken in
     let eight = used-registers words (a .slot) (taskAt (slotsIn words) (a .slot)) (shown-used (a .observer) x shown) in
     let size = ap length (slot-shown (a .observer) x shown) ∙ task-length (a .observer) (taskAt (slotsIn words) (a .slot)) eight in
-    (ap (λ (n : ℕ). 39 + n) (c .mailbox-length .ensures .0) ∙ sym size, omega arith)
+    (ap (λ (n : ℕ). 39 + n) (c .mailbox-size .ensures .0) ∙ sym size, omega arith)
 
 returns-2 : tie.Need-returns-2
 returns-2 c =
@@ -28,5 +28,5 @@ returns-2 c =
     let hidden = sym (c .before .is-shown .ensures) ∙ c .if1 .left in
     (sym (ap length (slot-hidden (a .observer) (slotAt (slotsIn (now (a .table))) (a .slot)) hidden)), omega arith)
 
-pub slot-length-spec : {M : Type 1} → statement M
-slot-length-spec = tie.close (tie.spec (λ c κs. tt) (λ c κs. tt) (λ c. omega arith) returns returns-2)
+pub slot-size-spec : {M : Type 1} → statement M
+slot-size-spec = tie.close (tie.spec (λ c κs. tt) (λ c κs. tt) (λ c. omega arith) returns returns-2)
