@@ -226,13 +226,11 @@ fn write_fields(out: &mut [u8], size: usize, kind: u8, label: u8, spare: u8, pc:
     requires { ⌜ 7 ≤ length (now out) ⌝ }
     ensures { λ _. ⌜ now (out .exit) ≡ overwrite (encodeNumber 2 size ++ kind ∷ label ∷ spare ∷ encodeNumber 2 pc) (now (out .entry)) ⌝ }
 {
-    out[0] = (size / 256 % 256) as u8;
-    out[1] = (size % 256) as u8;
+    wire::encode_u16(out, size);
     out[2] = kind;
     out[3] = label;
     out[4] = spare;
-    out[5] = (pc / 256 % 256) as u8;
-    out[6] = (pc % 256) as u8;
+    wire::encode_u16(&mut out[5..], pc as usize);
 }
 
 // Writes a task that the observer sees: the record's length, the fields, the registers and the mailbox. How many bytes.

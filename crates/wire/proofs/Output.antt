@@ -9,7 +9,7 @@ use borrow.Author.Tests.{leb-true, le-leb, lt-leb}
 use borrow.Rule.Slice.PartMut.{putMid}
 use lib.Dec.{leb}
 use lib.ListN.{length, getD, take, drop, set, length-append, length-drop, drop-of-length-le}
-use lib.Seq.{take-append-seam, drop-append-seam, take-at, drop-at, drop-drop, paste-suc, take-all}
+use lib.Seq.{take-append-seam, drop-append-seam, take-at, drop-at, drop-drop, paste-suc, take-all, sets, sets-eq}
 use Rattle.wire.specs.Output.{overwrite, written}
 use Rattle.wire.specs.Items.{encodeItems}
 use Rattle.wire.proofs.Lists.{split}
@@ -41,6 +41,15 @@ length-written w out =
 -- a copy's next element
 pub copy-next : {A : Type 0} (s d : List A) (i : ℕ) (z : A) → i < length s → i < length d → set (take i s ++ drop i d) i (getD s i z) ≡ take (i + 1) s ++ drop (i + 1) d
 copy-next s d i z h k = rw add-one (simp zero-add at (paste-suc d 0 s i z (rw zero-add k) h))
+
+-- a run of stores behind what was written before
+pub stores-behind : (w v out xs : List ℕ) (a : ℕ) → length w ≡ a → length w + length v ≤ length out → xs ≡ overwrite w out → sets xs a v ≡ overwrite (w ++ v) out
+stores-behind w v out xs a h room e =
+    let long : length xs ≡ length out = rw e (length-overwrite w out (omega arith)) in
+    let front : take a xs ≡ w = rw (e, h) (take-at w (drop a out) a h) in
+    let back : drop a xs ≡ drop a out = rw (e, h) (drop-at w (drop a out) a h) in
+    sets-eq v xs a (omega arith)
+    ∙ rw (front, ← drop-drop (length v) a xs, back) (simp (length-append, drop-drop, h))
 
 -- ---- a part of an output that is lent
 

@@ -1,31 +1,41 @@
--- `snapshot::write_fields` meets its contract: a run of stores from the front.
+-- `snapshot::write_fields` meets its contract: the length, three stores behind it, and the place behind these.
 use borrow.Author.Needs.{needs}
-use mathlib.Core.List.{_∷_, _++_}
+use mathlib.Core.Path.{refl, ap, _∙_}
+use mathlib.Core.List.{[], _∷_, _++_}
 use native.Mathlib.Omega.{arith}
 use denote.Ref.{now}
-use lib.ListN.{length-set}
-use lib.Seq.{sets-eq}
+use lib.ListN.{length, length-set}
 use Rattle.wire.specs.Numbers.{encodeNumber}
+use Rattle.wire.proofs.Output.{length-overwrite, written-fits, stores-behind, lent-fits}
 use Rattle.snapshot.proofs.write_fields.Statement.{statement}
 use Rattle.snapshot.proofs.write_fields.Tie as tie
 
 returns : tie.Need-returns
-returns c = let a = c .args in sets-eq (encodeNumber 2 (a .size) ++ a .kind ∷ a .label ∷ a .spare ∷ encodeNumber 2 (a .pc)) (now (a .out)) 0 (omega arith)
+returns c =
+    let e = c .before .before .before .before .before .before in
+    let a = e .before .before .before .args in
+    let out = now (a .out) in
+    let size = encodeNumber 2 (a .size) in
+    let first = e .encode-u16 .ensures ∙ written-fits size out (omega arith) in
+    let fields = stores-behind size (a .kind ∷ a .label ∷ a .spare ∷ []) out (e .encode-u16 .last .0) 2 refl (omega arith) first in
+    lent-fits (size ++ a .kind ∷ a .label ∷ a .spare ∷ []) (encodeNumber 2 (a .pc)) out 5 refl (omega arith) fields (c .before .before .encode-u162 .ensures)
+
+same-length : tie.Need-same-length
+same-length c =
+    let a = c .before .before .before .before .before .before .before .before .before .args in
+    ap length (returns c) ∙ length-overwrite (encodeNumber 2 (a .size) ++ a .kind ∷ a .label ∷ a .spare ∷ encodeNumber 2 (a .pc)) (now (a .out)) (omega arith)
 
 pub write-fields-spec : {M : Type 1} → statement M
 write-fields-spec =
     tie.close
     (tie.spec
-    (λ c. search needs)
-    (λ c. search needs)
-    (λ c. search needs)
+    (λ c κs. tt)
+    (λ c. omega arith)
     (λ c. simp length-set (omega arith))
     (λ c. simp length-set (omega arith))
     (λ c. simp length-set (omega arith))
     (λ c. simp length-set (omega arith))
     (λ c. search needs)
-    (λ c. simp length-set (omega arith))
-    (λ c. search needs)
-    (λ c. simp length-set (omega arith))
-    (λ c. simp length-set)
+    (λ c κs. tt)
+    same-length
     returns)
