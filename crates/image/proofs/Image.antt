@@ -37,7 +37,7 @@ image-number b =
 
 -- ---- what acceptance says, part by part
 
-pub record InOrder (b : List ℕ) : Type 0 where
+record InOrder (b : List ℕ) : Type 0 where
   pub version : getD b 0 0 ≡ 1
   pub three : 3 ≤ length b
   pub size : isProgramLength (programLength b) ≡ true
@@ -48,7 +48,7 @@ pub record InOrder (b : List ℕ) : Type 0 where
   pub tail : skip 16 (slotsPart b) ≡ []
   pub spares : sparesUnused (slotsOf 16 (slotsPart b)) ≡ true
 
-pub in-order : (b : List ℕ) → imageNumber b ≡ 0 → InOrder b
+in-order : (b : List ℕ) → imageNumber b ≡ 0 → InOrder b
 unfolding imageNumber versionNumber programNumber turnSlotNumber tailNumber spareNumber
 in-order b e =
     let p = then-right (versionNumber b) _ e in
@@ -71,29 +71,31 @@ in-order b e =
       spares = unless-none (sparesUnused (slotsOf 16 (slotsPart b))) 11 (then-right (tailNumber b) _ r);
     }
 
-module _ (b : List ℕ) (a : InOrder b) where
+module _ (b : List ℕ) (e : imageNumber b ≡ 0) where
   program-size : length (programOf b) ≡ programLength b
-  program-size = length-take-le (programLength b) (drop 3 b) (rw length-drop (omega (arith, a .ahead)))
+  program-size = length-take-le (programLength b) (drop 3 b) (rw length-drop (omega (arith, in-order b e .ahead)))
 
   -- the shortest image has 40 bytes, the longest 7,796
   pub accepted-length : (40 ≤ length b) × (length b ≤ 7796)
   unfolding slotsPart
   accepted-length =
+      let a = in-order b e in
       let f = size-facts (programLength b) (a .size) in
       let s = slots-length 16 0 (count (programOf b)) (slotsPart b) (a .slots) in
       let z : length (skip 16 (slotsPart b)) ≡ 0 = ap length (a .tail) in
       let d = length-drop (slotsAt b) b in
       (omega (arith, a .ahead), omega (arith, a .ahead))
 
-module _ (b : List ℕ) (h : Bytes b) (a : InOrder b) where
+module _ (b : List ℕ) (h : Bytes b) (e : imageNumber b ≡ 0) where
   -- ---- an accepted image holds a valid state
 
   pub accepted-valid : Valid (stateOf b)
   unfolding stateOf slotsPart
   accepted-valid =
+      let a = in-order b e in
       let s = drop (slotsAt b) b in
       record {
-        size = rw (program-size b a) (a .size);
+        size = rw (program-size b e) (a .size);
         bytes = every-take IsByte (programLength b) (drop 3 b) (every-drop IsByte 3 b h);
         legal = a .legal;
         turnSlot = a .turnSlot;
@@ -106,7 +108,7 @@ module _ (b : List ℕ) (h : Bytes b) (a : InOrder b) where
 
   head-back : 1 ∷ encodeNumber 2 (programLength b) ≡ take 3 b
   unfolding programLength
-  head-back = go b h (a .version) (a .three)
+  head-back = go b h (in-order b e .version) (in-order b e .three)
     where
       go : (b : List ℕ) → Bytes b → getD b 0 0 ≡ 1 → 3 ≤ length b → 1 ∷ encodeNumber 2 (decodeNumber 2 (drop 1 b)) ≡ take 3 b
       go [] h v l = absurd (not-suc-le-zero l)
@@ -115,6 +117,7 @@ module _ (b : List ℕ) (h : Bytes b) (a : InOrder b) where
   slots-written : slotsBytes (slotsOf 16 (slotsPart b)) ≡ slotsPart b
   unfolding slotsPart
   slots-written =
+      let a = in-order b e in
       let s = drop (slotsAt b) b in
       let w = slotsBytes (slotsOf 16 s) in
       sym (append-nil w) ∙ ap (λ (t : List ℕ). w ++ t) (sym (a .tail)) ∙ slots-back 16 0 (count (programOf b)) s (every-drop IsByte (slotsAt b) b h) (a .slots)
@@ -123,13 +126,13 @@ module _ (b : List ℕ) (h : Bytes b) (a : InOrder b) where
   unfolding slotsPart
   tail-back =
       let k : suc (turnSlotAt b) ≡ slotsAt b = omega arith in
-      rw (← k) (sym (drop-cons b (turnSlotAt b) 0 (omega (arith, a .ahead))))
+      rw (← k) (sym (drop-cons b (turnSlotAt b) 0 (omega (arith, in-order b e .ahead))))
 
   pub image-back : imageBytes (stateOf b) ≡ b
   unfolding imageBytes stateOf
   image-back =
       ap₂ (λ (x y : List ℕ). x ++ y)
-      (ap₂ (λ (x y : List ℕ). x ++ y) (ap (λ (n : ℕ). 1 ∷ encodeNumber 2 n) (program-size b a) ∙ head-back) refl ∙ sym (take-add 3 (programLength b) b))
+      (ap₂ (λ (x y : List ℕ). x ++ y) (ap (λ (n : ℕ). 1 ∷ encodeNumber 2 n) (program-size b e) ∙ head-back) refl ∙ sym (take-add 3 (programLength b) b))
       (ap (λ (t : List ℕ). turnSlotOf b ∷ t) slots-written ∙ tail-back)
       ∙ take-append-drop (turnSlotAt b) b
 

@@ -1,18 +1,20 @@
 -- A mailbox read message by message, with a count for each label.
-use Prim.Native.Nat.{ℕ, zero, suc, _+_, _*_, _-_, _<_, _≤_}
-use mathlib.Core.Path.{_≡_, refl, sym, ap, _∙_}
-use mathlib.Core.Bool.{Bool, true, false, _&&_, and-false}
+use Prim.Native.Nat.{ℕ, _+_, _*_, _<_, _≤_}
+use mathlib.Core.Path.{_≡_, refl, sym, _∙_}
+use mathlib.Core.Bool.{true, false, _&&_, and-false}
 use mathlib.Core.List.{List, [], _∷_, _++_}
 use native.Mathlib.Decide.{ℕ-discrete}
 use native.Mathlib.Nat.{add-zero}
+use native.Mathlib.Numerals.{add-one}
 use native.Mathlib.Omega.{arith}
 use borrow.Author.Tests.{leb-true, le-leb, lt-leb, eq-eqb, ne-eqb}
 use lib.Dec.{leb}
 use lib.ListN.{length, getD, drop, set, replicate, length-append, length-set, getD-replicate}
-use lib.Seq.{drop-drop, getD-drop, getD-set-same, getD-set-other}
+use lib.Seq.{getD-drop, getD-set-same, getD-set-other}
 use Rattle.wire.specs.Lists.{each, all}
 use Rattle.wire.specs.Items.{decodeItems}
-use Rattle.wire.proofs.Lists.{split, and-both, each-intro, each-fails, keep-append}
+use Rattle.wire.proofs.Lists.{and-both, each-intro, each-fails, keep-append, all-append}
+use Rattle.wire.proofs.Items.{decode-at, decode-more}
 use Rattle.machine.specs.State.{Message}
 use Rattle.machine.specs.Turn.{ofLabel}
 use Rattle.machine.specs.Valid.{messageInRange, mailInRange}
@@ -23,27 +25,11 @@ use Rattle.image.specs.Record.{messageOf}
 abbrev pub messages : ℕ → List ℕ → List Message
 messages = decodeItems 6 messageOf
 
--- message j stands behind the first j, and others behind it
-messages-at : (k j : ℕ) (b : List ℕ) → j < k → messages k b ≡ messages j b ++ messageOf (drop (6 * j) b) ∷ messages (k - (j + 1)) (drop (6 * (j + 1)) b)
-unfolding decodeItems
-messages-at zero j b h = absurd (omega arith)
-messages-at (suc k) zero b h = let e : suc k - 1 ≡ k = omega arith in rw e
-messages-at (suc k) (suc j) b h =
-    let d : suc k - (suc j + 1) ≡ k - (j + 1) = omega arith in
-    let e : 6 * suc j ≡ 6 + 6 * j = omega arith in
-    let f : 6 * (suc j + 1) ≡ 6 + 6 * (j + 1) = omega arith in
-    rw (d, e, f, ← drop-drop (6 * j) 6 b, ← drop-drop (6 * (j + 1)) 6 b) (ap (λ (ms : List Message). messageOf b ∷ ms) (messages-at k j (drop 6 b) (omega arith)))
-
-messages-next : (j : ℕ) (b : List ℕ) → messages (j + 1) b ≡ messages j b ++ (messageOf (drop (6 * j) b) ∷ [])
-unfolding decodeItems
-messages-next j b = let e : j + 1 - (j + 1) ≡ 0 = omega arith in messages-at (j + 1) j b (omega arith) ∙ rw e
-
 -- ---- counts
 
-all-append : (p : Message → Bool) (xs ys : List Message) → all p (xs ++ ys) ≡ all p xs && all p ys
-unfolding all
-all-append p [] ys = refl
-all-append p (x ∷ xs) ys = let ih = all-append p xs ys in split (p x) (λ e. rw (e, ih)) (λ e. rw e)
+-- a label in range has a count
+pub label-low : (label sender : ℕ) → (leb label 15 && leb sender 15) ≡ true → label < 16
+label-low label sender r = omega (arith, leb-true label 15 (and-both (leb label 15) (leb sender 15) r .0))
 
 -- the messages are in range, and the counts are theirs, four of a label at most
 pub record Counted (counts : List ℕ) (ms : List Message) : Type 0 where
@@ -61,8 +47,8 @@ module _ (counts : List ℕ) (ms : List Message) (ok : Counted counts ms) where
       rw (ok .range) (each-intro 16 (λ l. leb (length (ofLabel l ms)) 4) (λ l h. le-leb (length (ofLabel l ms)) 4 (rw (← ok .each l h .0) (ok .each l h .1))))
 
   module _ (m : Message) (r : messageInRange m ≡ true) where
-    label-low : m .label < 16
-    label-low = omega (arith, leb-true (m .label) 15 (and-both (leb (m .label) 15) (leb (m .sender) 15) r .0))
+    low : m .label < 16
+    low = label-low (m .label) (m .sender) r
 
     counted-next : getD counts (m .label) 0 < 4 → Counted (set counts (m .label) (getD counts (m .label) 0 + 1)) (ms ++ (m ∷ []))
     unfolding all
@@ -74,7 +60,7 @@ module _ (counts : List ℕ) (ms : List Message) (ok : Counted counts ms) where
             × (getD (set counts (m .label) (getD counts (m .label) 0 + 1)) l 0 ≤ 4)
         each l h =
             elim (ℕ-discrete l (m .label)) [
-              | yes e ↦ rw (e, getD-set-same counts (m .label) _ 0 (omega (arith, label-low, ok .size)), eq-eqb (m .label) (m .label) refl) (omega (arith, ok .each (m .label) label-low), omega arith)
+              | yes e ↦ rw (e, getD-set-same counts (m .label) _ 0 (omega (arith, low, ok .size)), eq-eqb (m .label) (m .label) refl) (omega (arith, ok .each (m .label) low), omega arith)
               | no ne ↦ rw (getD-set-other counts (m .label) l _ 0 ne, ne-eqb (m .label) l (λ e. ne (sym e))) (omega (arith, ok .each l h), ok .each l h .1)
             ]
 
@@ -82,8 +68,8 @@ module _ (counts : List ℕ) (ms : List Message) (ok : Counted counts ms) where
     counted-full : 4 ≤ getD counts (m .label) 0 → (after : List Message) → mailInRange (ms ++ m ∷ after) ≡ false
     counted-full full after =
         let more : 4 < length (ofLabel (m .label) (ms ++ m ∷ after))
-        = rw (keep-append, length-append, eq-eqb (m .label) (m .label) refl) (omega (arith, ok .each (m .label) label-low)) in
-        rw (each-fails 16 (λ l. leb (length (ofLabel l (ms ++ m ∷ after))) 4) (m .label) label-low (lt-leb _ 4 more), and-false)
+        = rw (keep-append, length-append, eq-eqb (m .label) (m .label) refl) (omega (arith, ok .each (m .label) low)) in
+        rw (each-fails 16 (λ l. leb (length (ofLabel l (ms ++ m ∷ after))) 4) (m .label) low (lt-leb _ 4 more), and-false)
 
 mail-out-of-range : (ms : List Message) (m : Message) → messageInRange m ≡ false → (after : List Message) → mailInRange (ms ++ m ∷ after) ≡ false
 unfolding all
@@ -103,11 +89,11 @@ module _ (b : List ℕ) (j label sender : ℕ) (l : label ≡ getD b (6 * j) 0) 
 
   module _ (counts : List ℕ) (ok : Counted counts (messages j b)) (r : (leb label 15 && leb sender 15) ≡ true) where
     pub message-counted : getD counts label 0 < 4 → Counted (set counts label (getD counts label 0 + 1)) (messages (j + 1) b)
-    message-counted room = rw (messages-next, label-is) (counted-next counts (messages j b) ok (messageOf (drop (6 * j) b)) (range-is ∙ r) (rw (← label-is) room))
+    message-counted room = rw (add-one j, decode-more 6 messageOf j b, label-is) (counted-next counts (messages j b) ok (messageOf (drop (6 * j) b)) (range-is ∙ r) (rw (← label-is) room))
 
     pub message-fifth : (k : ℕ) → j < k → 4 ≤ getD counts label 0 → mailInRange (messages k b) ≡ false
     message-fifth k h full =
-        rw (messages-at k j b h) (counted-full counts (messages j b) ok (messageOf (drop (6 * j) b)) (range-is ∙ r) (rw (← label-is) full) _)
+        rw (decode-at 6 messageOf k j b h) (counted-full counts (messages j b) ok (messageOf (drop (6 * j) b)) (range-is ∙ r) (rw (← label-is) full) _)
 
   pub message-out-of-range : (k : ℕ) → j < k → (leb label 15 && leb sender 15) ≡ false → mailInRange (messages k b) ≡ false
-  message-out-of-range k h r = rw (messages-at k j b h) (mail-out-of-range (messages j b) (messageOf (drop (6 * j) b)) (range-is ∙ r) _)
+  message-out-of-range k h r = rw (decode-at 6 messageOf k j b h) (mail-out-of-range (messages j b) (messageOf (drop (6 * j) b)) (range-is ∙ r) _)

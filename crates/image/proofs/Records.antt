@@ -9,16 +9,25 @@ use lib.ListN.{length, take, drop, length-append, length-drop, take-append-drop}
 use lib.Seq.{take-add, take-all, drop-at}
 use Rattle.wire.specs.Lists.{Bytes, Every, IsByte}
 use Rattle.wire.specs.Numbers.{decodeNumber, encodeNumber}
-use Rattle.wire.proofs.Lists.{every-drop, every-append}
+use Rattle.wire.proofs.Lists.{length-nil, every-drop, every-append}
 use Rattle.wire.specs.Items.{decodeItems, encodeItems}
 use Rattle.wire.proofs.Items.{length-decode, every-decode, items-back, items-forth, length-items, items-bytes}
 use Rattle.wire.proofs.Numbers.{length-encode, encode-decode, decode-encode, decode-lt, encode-bytes}
 use Rattle.machine.specs.State.{Message, Task, Slot, unused, used}
 use Rattle.machine.specs.Valid.{fieldsInRange, mailInRange, ValidTask, ValidSlot}
 use Rattle.machine.proofs.Rules.{MessageFacts, task-facts}
-use Rattle.image.specs.Refusal.{_then_, unless}
+use Rattle.image.specs.Refusal.{unless}
 use Rattle.image.specs.Record.{messageOf, taskOf, slotOf, messageBytes, taskBytes, recordBytes, recordNumber}
 use Rattle.image.proofs.Refusal.{then-left, then-right, unless-none}
+
+-- ---- an unused slot has no record
+
+pub slot-none : (r : List ℕ) → length r ≡ 0 → slotOf r ≡ unused
+slot-none r e = rw (length-nil r e)
+
+pub slot-some : (r : List ℕ) → length r ≢ 0 → slotOf r ≡ used (taskOf r)
+slot-some [] h = absurd (h refl)
+slot-some (x ∷ r) h = refl
 
 -- ---- bytes to a task and back
 
@@ -55,7 +64,7 @@ message-forth m q h = ap (λ (v : ℕ). record { label = m .label; sender = m .s
 length-mailbox : (ms : List Message) → length (encodeItems messageBytes ms) ≡ 6 * length ms
 length-mailbox = length-items messageBytes 6 (λ m. refl)
 
-length-registers : (xs : List ℕ) → length (encodeItems (encodeNumber 4) xs) ≡ 4 * length xs
+pub length-registers : (xs : List ℕ) → length (encodeItems (encodeNumber 4) xs) ≡ 4 * length xs
 length-registers = length-items (encodeNumber 4) 4 (length-encode 4)
 
 mailbox-forth : (ms : List Message) → Every (λ m. m .value < 2 ^ 32) ms
@@ -73,7 +82,7 @@ module _ (n s : ℕ) (t : Task) (ok : ValidTask n s t) where
   pub task-length : length (taskBytes t) ≡ 37 + 6 * length (t .mailbox)
   task-length = simp length-append (omega (arith, length-registers (t .registers), length-mailbox (t .mailbox), ok .registers))
 
-  pub task-forth : n ≤ 256 → taskOf (taskBytes t) ≡ t
+  task-forth : n ≤ 256 → taskOf (taskBytes t) ≡ t
   task-forth h =
       let w = encodeItems (encodeNumber 4) (t .registers) in
       let m = encodeItems messageBytes (t .mailbox) in
@@ -116,11 +125,6 @@ record-valid s n (x ∷ q) h e =
           every-decode 6 messageOf (λ (m : Message). m .value < 2 ^ 32) (λ b g. decode-lt 4 (drop 2 b) (every-drop IsByte 2 b g))
           (length (drop 37 r) / 6) (drop 37 r) (every-drop IsByte 37 r h);
     }
-
--- the number of a record that is not empty
-pub task-number : (s n : ℕ) (r : List ℕ) → length r ≢ 0 → recordNumber s n (slotOf r) ≡ (unless (fieldsInRange s n (taskOf r)) 9 then unless (mailInRange (taskOf r .mailbox)) 10)
-task-number s n [] h = absurd (h refl)
-task-number s n (x ∷ r) h = refl
 
 -- ---- and a valid task gives none
 

@@ -26,13 +26,13 @@ use Rattle.image.proofs.Records.{task-back, task-length, slot-forth, re
 
 -- ---- lengths of records
 
--- 0, or 37 and whole messages, 421 at most
-pub record Whole (l : ℕ) : Type 0 where
+-- 37 and whole messages, 421 at most
+record Whole (l : ℕ) : Type 0 where
   pub least : 37 ≤ l
   pub messages : (l - 37) % 6 ≡ 0
   pub most : l ≤ 421
 
-pub length-whole : (l : ℕ) → isRecordLength l ≡ true → (l ≡ 0 → ⊥) → Whole l
+length-whole : (l : ℕ) → isRecordLength l ≡ true → (l ≡ 0 → ⊥) → Whole l
 unfolding isRecordLength
 length-whole l e ne =
     let u = rw (ne-eqb l 0 ne) at e in
@@ -47,7 +47,7 @@ length-most : (l : ℕ) → isRecordLength l ≡ true → l ≤ 421
 length-most l e = split (eqb l 0) (λ z. omega (arith, eqb-true l 0 z)) (λ z. length-whole l e (eqb-false l 0 z) .most)
 
 -- 37 + 6 × k is one exactly when k is at most 64
-pub length-is : (k : ℕ) → isRecordLength (37 + 6 * k) ≡ leb k 64
+length-is : (k : ℕ) → isRecordLength (37 + 6 * k) ≡ leb k 64
 unfolding isRecordLength
 length-is k =
     let a : 37 ≤ 37 + 6 * k = omega arith in
@@ -62,13 +62,13 @@ valid-length n s (used t) ok = ap isRecordLength (task-length n s t ok) ∙ leng
 
 -- ---- bytes to slots and back
 
-pub record SlotInOrder (s n : ℕ) (b : List ℕ) : Type 0 where
+record SlotInOrder (s n : ℕ) (b : List ℕ) : Type 0 where
   pub two : 2 ≤ length b
   pub size : isRecordLength (recordLength b) ≡ true
   pub long : 2 + recordLength b ≤ length b
   pub fields : recordNumber s n (slotOf (recordOf b)) ≡ 0
 
-pub slot-in-order : (s n : ℕ) (b : List ℕ) → slotNumber s n b ≡ 0 → SlotInOrder s n b
+slot-in-order : (s n : ℕ) (b : List ℕ) → slotNumber s n b ≡ 0 → SlotInOrder s n b
 unfolding slotNumber
 slot-in-order s n b e =
     let e₂ = then-right (short 2 b) _ e in
@@ -86,18 +86,20 @@ record-back (x ∷ r) h e =
     let w = length-whole (length (x ∷ r)) e (suc-ne-zero (length r)) in
     task-back (x ∷ r) h (w .least) (w .messages)
 
-module _ (s n : ℕ) (b : List ℕ) (h : Bytes b) (ok : SlotInOrder s n b) where
-  recordOf-bytes : Bytes (recordOf b)
-  recordOf-bytes = every-take IsByte (recordLength b) (drop 2 b) (every-drop IsByte 2 b h)
+recordOf-bytes : (b : List ℕ) → Bytes b → Bytes (recordOf b)
+recordOf-bytes b h = every-take IsByte (recordLength b) (drop 2 b) (every-drop IsByte 2 b h)
 
+module _ (s n : ℕ) (b : List ℕ) (ok : SlotInOrder s n b) where
   recordOf-length : length (recordOf b) ≡ recordLength b
   recordOf-length = length-take-le (recordLength b) (drop 2 b) (rw length-drop (omega (arith, ok .long)))
 
-  slot-back : slotBytes (slotOf (recordOf b)) ≡ take (2 + recordLength b) b
+  record-written : Bytes b → recordBytes (slotOf (recordOf b)) ≡ recordOf b
+  record-written h = record-back (recordOf b) (recordOf-bytes b h) (rw recordOf-length (ok .size))
+
+  slot-back : Bytes b → slotBytes (slotOf (recordOf b)) ≡ take (2 + recordLength b) b
   unfolding recordLength
-  slot-back =
-      let r : recordBytes (slotOf (recordOf b)) ≡ recordOf b = record-back (recordOf b) recordOf-bytes (rw recordOf-length (ok .size)) in
-      rw r (ap₂ (λ (x y : List ℕ). x ++ y) (ap (encodeNumber 2) recordOf-length ∙ encode-decode 2 b h (ok .two)) refl ∙ sym (take-add 2 (recordLength b) b))
+  slot-back h =
+      rw (record-written h) (ap₂ (λ (x y : List ℕ). x ++ y) (ap (encodeNumber 2) recordOf-length ∙ encode-decode 2 b h (ok .two)) refl ∙ sym (take-add 2 (recordLength b) b))
 
 pub slots-back : (k s n : ℕ) (b : List ℕ) → Bytes b → slotsNumber k s n b ≡ 0 → slotsBytes (slotsOf k b) ++ skip k b ≡ b
 unfolding encodeItems slotsOf skip slotsNumber
@@ -105,7 +107,7 @@ slots-back zero s n b h e = refl
 slots-back (suc k) s n b h e =
     let ok = slot-in-order s n b (then-left _ _ e) in
     append-assoc (slotBytes (slotOf (recordOf b))) (slotsBytes (slotsOf k (behind b))) (skip k (behind b))
-    ∙ ap₂ (λ (x y : List ℕ). x ++ y) (slot-back s n b h ok) (slots-back k (s + 1) n (behind b) (every-drop IsByte (2 + recordLength b) b h) (then-right (slotNumber s n b) _ e))
+    ∙ ap₂ (λ (x y : List ℕ). x ++ y) (slot-back s n b ok h) (slots-back k (s + 1) n (behind b) (every-drop IsByte (2 + recordLength b) b h) (then-right (slotNumber s n b) _ e))
     ∙ take-append-drop (2 + recordLength b) b
 
 pub slots-valid : (k s n : ℕ) (b : List ℕ) → Bytes b → slotsNumber k s n b ≡ 0 → (i : ℕ) → ValidSlot n (s + i) (slotAt (slotsOf k b) i)
@@ -113,7 +115,7 @@ unfolding slotsOf slotsNumber
 slots-valid zero s n b h e i = tt
 slots-valid (suc k) s n b h e zero =
     let ok = slot-in-order s n b (then-left _ _ e) in
-    rw add-zero (record-valid s n (recordOf b) (recordOf-bytes s n b h ok) (ok .fields))
+    rw add-zero (record-valid s n (recordOf b) (recordOf-bytes b h) (ok .fields))
 slots-valid (suc k) s n b h e (suc i) =
     let q : s + suc i ≡ s + 1 + i = omega arith in
     rw q (slots-valid k (s + 1) n (behind b) (every-drop IsByte (2 + recordLength b) b h) (then-right (slotNumber s n b) _ e) i)
@@ -153,8 +155,7 @@ pub record-at : (k i s n : ℕ) (b : List ℕ) → Bytes b → slotsNumber k s n
 unfolding skip slotsNumber
 record-at zero i s n b h e l = absurd (omega arith)
 record-at (suc k) zero s n b h e l =
-    let ok = slot-in-order s n b (then-left _ _ e) in
-    record-back (recordOf b) (recordOf-bytes s n b h ok) (rw (recordOf-length s n b h ok) (ok .size))
+    record-written s n b (slot-in-order s n b (then-left _ _ e)) h
 record-at (suc k) (suc i) s n b h e l =
     record-at k i (s + 1) n (behind b) (every-drop IsByte (2 + recordLength b) b h) (then-right (slotNumber s n b) _ e) (omega arith)
 

@@ -48,7 +48,7 @@ module _ (ss : List Slot) where
         | no l ↦ let e : i ≡ s = omega arith in rw e (omega arith)
       ]
 
-  -- and below each used slot
+  -- and freeFrom s is no higher than a used slot from s on
   below-used : SparesFree ss → (j : ℕ) → isUnused (slotAt ss j) ≡ false → (s : ℕ) → s ≤ j → freeFrom s ≤ j
   unfolding freeFrom
   below-used h j u zero l = omega arith

@@ -27,19 +27,19 @@ module _ (c : Call) (image out : List ℕ) where
   unfolding callNumber
   first-met = answer-number
 
-  none-then : callNumber c image out ≡ 0 → (c .argumentNumber ≡ 0) × (imageNumber image ≡ 0) × (length (c .bytes) ≤ length out)
+  only : callNumber c image out ≡ 0 → (c .argumentNumber ≡ 0) × (imageNumber image ≡ 0) × (length (c .bytes) ≤ length out)
   unfolding callNumber
-  none-then e =
+  only e =
       let i = then-right (c .argumentNumber) _ e in
       let o = then-right (imageNumber image) _ i in
       (then-left (c .argumentNumber) _ e, then-left (imageNumber image) _ i, leb-true _ _ (unless-none (leb (length (c .bytes)) (length out)) 12 o))
 
-  then-none : c .argumentNumber ≡ 0 → imageNumber image ≡ 0 → length (c .bytes) ≤ length out → callNumber c image out ≡ 0
+  always : c .argumentNumber ≡ 0 → imageNumber image ≡ 0 → length (c .bytes) ≤ length out → callNumber c image out ≡ 0
   unfolding callNumber
-  then-none a i o = rw (a, i, le-leb (length (c .bytes)) (length out) o)
+  always a i o = rw (a, i, le-leb (length (c .bytes)) (length out) o)
 
   pub accepted-exactly : AcceptedExactly c image out
-  accepted-exactly = record { only = λ e. none-then (sym answer-number ∙ e); always = λ a i o. answer-number ∙ then-none a i o }
+  accepted-exactly = record { only = λ e. only (sym answer-number ∙ e); always = λ a i o. answer-number ∙ always a i o }
 
   -- the bytes that the call writes, none where it is refused
   pub call-written : take (callAnswer c image out .length) (callOutput c image out) ≡ cond (eqb (callNumber c image out) 0) (c .bytes) []
@@ -56,7 +56,7 @@ module _ (c : Call) (image out : List ℕ) where
   unfolding callAnswer callOutput
   writes-its-answer =
       split (eqb (callNumber c image out) 0)
-      (λ e. let room = none-then (eqb-true (callNumber c image out) 0 e) .2 in
+      (λ e. let room = only (eqb-true (callNumber c image out) 0 e) .2 in
       rw e
       record {
         refused = λ n. absurd (n refl);
@@ -85,15 +85,15 @@ module _ (c : Call) (image out : List ℕ) where
 
   module _ (argument : c .argumentNumber ≡ 0) where
     -- its image is refused
-    pub image-refused : imageNumber image ≢ 0 → (callAnswer c image out ≡ refusal (imageNumber image)) × (callOutput c image out ≡ out)
+    pub call-refused : imageNumber image ≢ 0 → (callAnswer c image out ≡ refusal (imageNumber image)) × (callOutput c image out ≡ out)
     unfolding callAnswer callOutput callNumber
-    image-refused refused =
+    call-refused refused =
         rw (argument, then-stop (imageNumber image) refused (unless (leb (length (c .bytes)) (length out)) 13), ne-eqb (imageNumber image) 0 refused) (refl, refl)
 
     -- its image is accepted, and only the output may be too short
-    pub image-accepted : imageNumber image ≡ 0
+    pub call-accepted : imageNumber image ≡ 0
         → (callAnswer c image out ≡ cond (leb (length (c .bytes)) (length out)) (record { number = 0; length = length (c .bytes); busy = c .busy }) (refusal 13))
         × (callOutput c image out ≡ written (c .bytes) out)
     unfolding callAnswer callOutput callNumber
-    image-accepted accepted =
+    call-accepted accepted =
         rw (argument, accepted) (split (leb (length (c .bytes)) (length out)) (λ e. rw e (refl, refl)) (λ e. rw e (refl, refl)))

@@ -14,7 +14,7 @@ use Rattle.machine.specs.Machine.{turns, view}
 use Rattle.machine.proofs.Machine.{turns-valid, view-valid, view-15}
 use Rattle.image.specs.Image.{stateOf, imageBytes}
 use Rattle.image.proofs.Refusal.{unless-holds}
-use Rattle.image.proofs.Image.{in-order, accepted-length, image-listed, image-forth, record-part, record-above, record-refused, record-inside}
+use Rattle.image.proofs.Image.{accepted-length, image-listed, image-forth, record-part, record-above, record-refused, record-inside}
 use Rattle.monitor.specs.Calls.{rewriteCall, turnsCall, viewCall}
 use Rattle.monitor.specs.Claims.{NumbersAreListed, FirstMetIsGiven, LimitsAreRefused, CallsAreAcceptedExactly, OthersAreAccepted, CallsWriteTheirAnswer, RecordIsItsPart, ImageLengths, ReadThenWrite, WriteThenRead, ViewIsAccepted, ViewFor15, Secrecy, EqualViewsAreEqualBytes}
 use Rattle.monitor.proofs.Calls.{first-met, accepted-exactly, output-accepted, writes-its-answer, number-holds}
@@ -49,7 +49,7 @@ calls-are-accepted-exactly = accepted-exactly
 
 -- a valid state's image has at most 7,796 bytes
 room : (s : State) → Valid s → (out : List ℕ) → 7796 ≤ length out → length (imageBytes s) ≤ length out
-room s ok out h = omega (arith, accepted-length (imageBytes s) (in-order (imageBytes s) (written-accepted s ok .number)))
+room s ok out h = omega (arith, accepted-length (imageBytes s) (written-accepted s ok .number))
 
 pub others-are-accepted : OthersAreAccepted
 others-are-accepted image out a h =
@@ -73,7 +73,7 @@ record-is-its-part image slot =
     }
 
 pub image-lengths : ImageLengths
-image-lengths image a = accepted-length image (in-order image (a .number))
+image-lengths image a = accepted-length image (a .number)
 
 pub read-then-write : ReadThenWrite
 read-then-write image a =

@@ -7,7 +7,7 @@ use Rattle.machine.specs.State.{Slot}
 use Rattle.machine.specs.Machine.{view}
 use Rattle.machine.proofs.Machine.{view-15}
 use Rattle.image.specs.Image.{programOf, turnSlotOf, imageNumber, stateOf, imageBytes}
-use Rattle.image.proofs.Image.{in-order, accepted-valid}
+use Rattle.image.proofs.Image.{accepted-valid}
 use Rattle.table.specs.Table.{slotsIn}
 use Rattle.snapshot.specs.Writing.{snapshotBytes}
 
@@ -17,4 +17,4 @@ module _ (image : List ℕ) (bytes : Bytes image) (accepted : imageNumber image 
   unfolding snapshotBytes stateOf
   rewrite-bytes =
       ap (λ (ss : List Slot). imageBytes (view 15 (record { program = programOf image; turnSlot = turnSlotOf image; slots = ss }))) loaded
-      ∙ ap imageBytes (view-15 (stateOf image) (accepted-valid image bytes (in-order image accepted)))
+      ∙ ap imageBytes (view-15 (stateOf image) (accepted-valid image bytes accepted))

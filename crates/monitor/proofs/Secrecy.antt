@@ -15,7 +15,7 @@ use Rattle.machine.specs.Machine.{turns, view}
 use Rattle.machine.proofs.Machine.{turns-valid, view-valid, turns-add, turns-same}
 use Rattle.image.specs.Refusal.{unless}
 use Rattle.image.specs.Image.{stateOf, imageBytes}
-use Rattle.image.proofs.Image.{in-order, accepted-valid, image-back, image-bytes, image-accepted, image-forth}
+use Rattle.image.proofs.Image.{accepted-valid, image-back, image-bytes, image-accepted, image-forth}
 use Rattle.monitor.specs.Calls.{callNumber, callAnswer, turnsCall, viewBytes, viewCall, viewAnswer, viewOutput}
 use Rattle.monitor.specs.Claims.{Accepted, TurnCall, isAccepted, imageAfter, finalImage, turnsCarriedOut, EqualViews}
 use Rattle.monitor.proofs.Calls.{accepted-exactly, call-written, writes-its-answer}
@@ -23,10 +23,10 @@ use Rattle.monitor.proofs.Calls.{accepted-exactly, call-written, writes
 -- ---- accepted images and valid states
 
 pub read-valid : (image : List ℕ) → Accepted image → Valid (stateOf image)
-read-valid image a = accepted-valid image (a .bytes) (in-order image (a .number))
+read-valid image a = accepted-valid image (a .bytes) (a .number)
 
 pub rewritten : (image : List ℕ) → Accepted image → imageBytes (stateOf image) ≡ image
-rewritten image a = image-back image (a .bytes) (in-order image (a .number))
+rewritten image a = image-back image (a .bytes) (a .number)
 
 pub written-accepted : (s : State) → Valid s → Accepted (imageBytes s)
 written-accepted s ok = record { bytes = image-bytes s ok; number = image-accepted s ok }
@@ -86,7 +86,7 @@ after-call c image a =
     (λ e. rw e (writes-its-answer (turnsCall (c .n) image) image (c .out) .accepted (eqb-true _ 0 e) .2))
     (λ e. rw e (sym (rewritten image a)))
 
-pub after-calls : (cs : List TurnCall) (image : List ℕ) → Accepted image
+after-calls : (cs : List TurnCall) (image : List ℕ) → Accepted image
     → finalImage cs image ≡ imageBytes (turns (turnsCarriedOut cs image) (stateOf image))
 unfolding Turn.turns
 after-calls [] image a = sym (rewritten image a)

@@ -1,11 +1,11 @@
--- The steps of loading a slot make the task of its record.
+-- The steps of loading make the task of each record and the slots of the image, and an accepted image can be loaded.
 use Prim.Native.Nat.{ℕ, zero, suc, _+_, _*_, _/_, _≤_, _<_}
 use mathlib.Core.Path.{_≡_, refl, sym, ap, ap₂, _∙_}
 use mathlib.Core.List.{List, [], _∷_, _++_, append-nil}
 use native.Mathlib.Numerals.{add-one}
 use native.Mathlib.Omega.{arith}
 use borrow.Author.Tests.{ne-eqb}
-use lib.ListN.{length, getD, take, drop, set, length-append, drop-of-length-le}
+use lib.ListN.{length, getD, take, drop, set, length-append}
 use lib.Seq.{take-all, drop-cons, drop-drop, set-at, append-snoc}
 use Rattle.wire.specs.Lists.{Bytes}
 use Rattle.wire.specs.Numbers.{decodeNumber}
@@ -21,7 +21,8 @@ use Rattle.image.specs.Record.{messageOf, taskOf, slotOf}
 use Rattle.image.specs.Image.{recordLength, recordOf, skip, slotsOf, slotsPart, programOf, imageNumber, stateOf}
 use Rattle.image.proofs.Slots.{length-slotsOf, slot-at}
 use Rattle.image.proofs.Walk.{skip-next}
-use Rattle.image.proofs.Image.{in-order, accepted-valid}
+use Rattle.image.proofs.Image.{accepted-valid}
+use Rattle.image.proofs.Records.{slot-some}
 use Rattle.table.specs.Table.{held}
 use Rattle.table.specs.Change.{change, withMessage, newTask}
 use Rattle.table.proofs.Change.{change-none, change-set, change-change}
@@ -49,10 +50,6 @@ messages-next s k m b ss e = rw (add-one, e) (change-change s (messagesAdded k b
 
 -- ---- the task of a record
 
-pub message-is : (label sender value : ℕ) (b rest : List ℕ) → label ≡ getD b 0 0 → sender ≡ getD b 1 0 → value ≡ decodeNumber 4 rest → rest ≡ drop 2 b
-    → _≡_ {A = Message} (record { label = label; sender = sender; value = value }) (messageOf b)
-message-is label sender value b rest l s v e = rw (l, s, v, e)
-
 registers-are : (k : ℕ) (b : List ℕ) (t : Task) → k ≤ length (t .registers)
     → registersSet k b t ≡ withRegisters (decodeItems 4 (decodeNumber 4) k b ++ drop k (t .registers)) t
 unfolding registersSet decodeItems
@@ -76,32 +73,28 @@ messages-are (suc k) b t h e =
     ap (withMessage m) (messages-are k b t (omega arith) e)
     ∙ ap (λ (ms : List Message). withMailbox ms t) (take-all 64 (front ++ (m ∷ [])) fits ∙ sym (decode-more 6 messageOf k b))
 
-module _ (r : List ℕ) (ok : Loadable r) (s : ℕ) (ss : List Slot) where
-  task-is : messagesAdded (length (drop 37 r) / 6) (drop 37 r) (registersSet 8 (drop 5 r) (newTask (getD r 0 0) (getD r 1 0) (getD r 2 0) (decodeNumber 2 (drop 3 r)))) ≡ taskOf r
+module _ (r : List ℕ) (ok : Loadable r) where
+  -- the task as it is put, with registers 0 and no messages
+  abbrev new : Task
+  new = newTask (getD r 0 0) (getD r 1 0) (getD r 2 0) (decodeNumber 2 (drop 3 r))
+
+  abbrev addMessages : Task → Task
+  addMessages = messagesAdded (length (drop 37 r) / 6) (drop 37 r)
+
+  task-is : addMessages (registersSet 8 (drop 5 r) new) ≡ taskOf r
   task-is =
-      let t = newTask (getD r 0 0) (getD r 1 0) (getD r 2 0) (decodeNumber 2 (drop 3 r)) in
-      let registers : registersSet 8 (drop 5 r) t ≡ withRegisters (decodeItems 4 (decodeNumber 4) 8 (drop 5 r)) t
-      = registers-are 8 (drop 5 r) t (omega arith) ∙ ap (λ (rs : List ℕ). withRegisters rs t) (append-nil (decodeItems 4 (decodeNumber 4) 8 (drop 5 r))) in
-      ap (messagesAdded (length (drop 37 r) / 6) (drop 37 r)) registers
-      ∙ messages-are (length (drop 37 r) / 6) (drop 37 r) (withRegisters (decodeItems 4 (decodeNumber 4) 8 (drop 5 r)) t) (ok .messages) refl
+      let rs = decodeItems 4 (decodeNumber 4) 8 (drop 5 r) in
+      let registers : registersSet 8 (drop 5 r) new ≡ withRegisters rs new
+      = registers-are 8 (drop 5 r) new (omega arith) ∙ ap (λ (xs : List ℕ). withRegisters xs new) (append-nil rs) in
+      ap addMessages registers ∙ messages-are (length (drop 37 r) / 6) (drop 37 r) (withRegisters rs new) (ok .messages) refl
 
   -- a new task, its registers and its messages
-  pub task-loaded : change s (messagesAdded (length (drop 37 r) / 6) (drop 37 r)) (change s (registersSet 8 (drop 5 r)) (set ss s (held (newTask (getD r 0 0) (getD r 1 0) (getD r 2 0) (decodeNumber 2 (drop 3 r))))))
-      ≡ set ss s (used (taskOf r))
-  task-loaded =
-      let t = newTask (getD r 0 0) (getD r 1 0) (getD r 2 0) (decodeNumber 2 (drop 3 r)) in
-      let h : held t ≡ used t = rw (ne-eqb (getD r 0 0) 0 (λ e. omega (arith, ok .kind))) in
-      rw (h, change-set s (registersSet 8 (drop 5 r)) ss (used t), change-set s (messagesAdded (length (drop 37 r) / 6) (drop 37 r)) ss (used (registersSet 8 (drop 5 r) t)), task-is)
+  pub task-loaded : (s : ℕ) (ss : List Slot) → change s addMessages (change s (registersSet 8 (drop 5 r)) (set ss s (held new))) ≡ set ss s (used (taskOf r))
+  task-loaded s ss =
+      let h : held new ≡ used new = rw (ne-eqb (getD r 0 0) 0 (λ e. omega (arith, ok .kind))) in
+      rw (h, change-set s (registersSet 8 (drop 5 r)) ss (used new), change-set s addMessages ss (used (registersSet 8 (drop 5 r) new)), task-is)
 
 -- ---- the slots
-
-pub slot-none : (r : List ℕ) → length r ≡ 0 → slotOf r ≡ unused
-slot-none [] e = refl
-slot-none (x ∷ r) e = absurd (omega arith)
-
-pub slot-some : (r : List ℕ) → 0 < length r → slotOf r ≡ used (taskOf r)
-slot-some [] h = absurd (omega arith)
-slot-some (x ∷ r) h = refl
 
 -- the bytes behind one slot more
 pub drop-next : (b : List ℕ) (at k r : ℕ) → drop at b ≡ skip k b → r ≡ recordLength (skip k b) → drop (at + (2 + r)) b ≡ skip (k + 1) b
@@ -114,9 +107,6 @@ pub load-next : (b : List ℕ) (ys : List Slot) (k : ℕ) (r : List ℕ) (ss : L
 load-next b ys k r ss h l e f =
     let x : slotOf r ≡ slotAt (slotsOf 16 b) k = ap slotOf f ∙ sym (slot-at 16 k b h) in
     rw (e, x) (copy-next (slotsOf 16 b) ys k unused (omega (arith, length-slotsOf 16 b)) (omega arith))
-
-pub all-loaded : (xs ys : List Slot) → length xs ≡ 16 → length ys ≡ 16 → take 16 xs ++ drop 16 ys ≡ xs
-all-loaded xs ys e f = rw (take-all 16 xs (omega arith), drop-of-length-le ys {i = 16} (omega arith), append-nil)
 
 -- ---- an accepted image
 
@@ -132,7 +122,7 @@ module _ (b : List ℕ) where
   unfolding stateOf
   accepted-loadable h e i l some =
       let r = recordOf (skip i (slotsPart b)) in
-      let x : slotAt (slotsOf 16 (slotsPart b)) i ≡ used (taskOf r) = slot-at 16 i (slotsPart b) l ∙ slot-some r some in
-      let valid : ValidTask (count (programOf b)) i (taskOf r) = rw x at (accepted-valid b h (in-order b e) .tasks i) in
+      let x : slotAt (slotsOf 16 (slotsPart b)) i ≡ used (taskOf r) = slot-at 16 i (slotsPart b) l ∙ slot-some r (λ z. omega arith) in
+      let valid : ValidTask (count (programOf b)) i (taskOf r) = rw x at (accepted-valid b h e .tasks i) in
       let facts = task-facts (count (programOf b)) i (taskOf r) valid in
       record { kind = facts .kind-low; messages = rw length-decode at (mailbox-64 (taskOf r .mailbox) (facts .mailbox)) }

@@ -2,7 +2,7 @@
 use Prim.Native.Nat.{ℕ, _+_}
 use mathlib.Core.Logic.{_≢_}
 use mathlib.Core.Path.{_≡_, refl, sym, ap, _∙_}
-use mathlib.Core.Bool.{true, false, not, _&&_}
+use mathlib.Core.Bool.{Bool, true, false, not, _&&_}
 use mathlib.Core.List.{List, [], _∷_, _++_}
 use native.Mathlib.Omega.{arith}
 use borrow.Author.Tests.{ne-eqb}
@@ -13,25 +13,28 @@ use Rattle.label.specs.Label.{flows}
 use Rattle.wire.specs.Lists.{keep}
 use Rattle.wire.specs.Numbers.{encodeNumber}
 use Rattle.wire.specs.Items.{encodeItems}
-use Rattle.wire.proofs.Numbers.{length-encode}
-use Rattle.wire.proofs.Items.{items-map, items-keep, length-items}
-use Rattle.machine.specs.State.{Message, Task, Slot, unused, used}
+use Rattle.wire.proofs.Items.{items-map, items-keep}
+use Rattle.machine.specs.State.{Message, Task, Slot, unused, used, slotAt}
 use Rattle.machine.specs.View.{viewSlot, view}
 use Rattle.image.specs.Record.{messageBytes}
 use Rattle.image.specs.Image.{programOf, slotBytes, imageBytes}
+use Rattle.image.proofs.Records.{length-registers}
 use Rattle.table.specs.Table.{slotsIn}
-use Rattle.table.specs.Change.{taskOr}
+use Rattle.table.specs.Change.{taskOr, taskAt}
+use Rattle.table.proofs.Slots.{used-registers}
 use Rattle.snapshot.specs.Writing.{snapshotBytes, headBytes, shownSlot, shownTask, shownMessage, isShown}
 
 -- ---- a message
 
-pub message-shown : (v : ℕ) (m : Message) → flows (m .label) v ≡ true → shownMessage v m ≡ messageBytes m
-unfolding shownMessage
-message-shown v m e = rw e
+-- by the label that the code reads of it and the test that it makes
+module _ (v : ℕ) (m : Message) {label : ℕ} {seen : Bool} (l : label ≡ m .label) (s : seen ≡ flows label v) where
+  pub message-shown : seen ≡ true → shownMessage v m ≡ messageBytes m
+  unfolding shownMessage
+  message-shown e = rw (← l, ← s, e)
 
-pub message-hidden : (v : ℕ) (m : Message) → flows (m .label) v ≡ false → shownMessage v m ≡ []
-unfolding shownMessage
-message-hidden v m e = rw e
+  pub message-hidden : seen ≡ false → shownMessage v m ≡ []
+  unfolding shownMessage
+  message-hidden e = rw (← l, ← s, e)
 
 -- ---- a task: its record's length, its fields, its registers and its messages
 
@@ -47,7 +50,7 @@ module _ (v : ℕ) (t : Task) (eight : length (t .registers) ≡ 8) where
   mailbox-shown = items-keep messageBytes (λ m. flows (m .label) v) (t .mailbox)
 
   record-length : length (registers ++ mailbox) ≡ 32 + length mailbox
-  record-length = omega (arith, length-append registers mailbox, length-items (encodeNumber 4) 4 (length-encode 4) (t .registers))
+  record-length = omega (arith, length-append registers mailbox, length-registers (t .registers))
 
   pub task-shown : shownTask v t ≡ encodeNumber 2 (37 + length mailbox) ++ (t .kind ∷ t .label ∷ t .spare ∷ encodeNumber 2 (t .pc)) ++ registers ++ mailbox
   unfolding shownTask
@@ -67,7 +70,7 @@ unfolding isShown
 shown-is unused kind label v k l h = rw k
 shown-is (used t) kind label v k l h = rw (k, l, ne-eqb (t .kind) 0 (h t refl))
 
-pub shown-used : (v : ℕ) (x : Slot) → isShown v x ≡ true → x ≡ used (taskOr x)
+shown-used : (v : ℕ) (x : Slot) → isShown v x ≡ true → x ≡ used (taskOr x)
 unfolding isShown
 shown-used v unused e = cc
 shown-used v (used t) e = refl
@@ -76,6 +79,14 @@ pub slot-shown : (v : ℕ) (x : Slot) → isShown v x ≡ true → shownSlot v x
 unfolding isShown shownSlot shownTask
 slot-shown v unused e = cc
 slot-shown v (used t) e = rw e
+
+-- a slot in the table that the observer sees
+module _ (words : List ℕ) (s v : ℕ) (shown : isShown v (slotAt (slotsIn words) s) ≡ true) where
+  pub shown-registers : length (taskAt (slotsIn words) s .registers) ≡ 8
+  shown-registers = used-registers words s (taskAt (slotsIn words) s) (shown-used v (slotAt (slotsIn words) s) shown)
+
+  pub shown-length : length (shownSlot v (slotAt (slotsIn words) s)) ≡ 39 + length (encodeItems (shownMessage v) (taskAt (slotsIn words) s .mailbox))
+  shown-length = ap length (slot-shown v (slotAt (slotsIn words) s) shown) ∙ task-length v (taskAt (slotsIn words) s) shown-registers
 
 pub slot-hidden : (v : ℕ) (x : Slot) → isShown v x ≡ false → shownSlot v x ≡ 0 ∷ 0 ∷ []
 unfolding isShown shownSlot

@@ -30,7 +30,8 @@ fn load_registers(table: &mut [u32; 3328], slot: usize, registers: &[u8])
 
 // Adds the messages to the mailbox of the task in a slot.
 fn load_mailbox(table: &mut [u32; 3328], slot: usize, mailbox: &[u8])
-    ensures { λ _. ⌜ slotsIn (now (table .exit)) ≡ change slot (messagesAdded (length (now (mailbox .entry)) / messageSize) (now (mailbox .entry))) (slotsIn (now (table .entry))) ⌝ }
+    ensures { λ _. ⌜ slotsIn (now (table .exit))
+        ≡ change slot (messagesAdded (length (now (mailbox .entry)) / messageSize) (now (mailbox .entry))) (slotsIn (now (table .entry))) ⌝ }
 {
     let count = mailbox.len() / image::MESSAGE_SIZE;
     let mut i: usize = 0;
@@ -172,7 +173,8 @@ fn slots_size(table: &[u32; 3328], observer: u8) -> usize
 // Writes the message, where the observer sees it: how many bytes.
 fn write_message(out: &mut [u8], table: &[u32; 3328], slot: usize, i: usize, observer: u8) -> usize
     requires { ⌜ length (shownMessage observer (messageAt (slotsIn (now table)) slot i)) ≤ length (now out) ⌝ }
-    ensures { λ r. ⌜ (r ≡ length (shownMessage observer (messageAt (slotsIn (now (table .entry))) slot i))) × (r ≤ 6) × (now (out .exit) ≡ overwrite (shownMessage observer (messageAt (slotsIn (now (table .entry))) slot i)) (now (out .entry))) ⌝ }
+    ensures { λ r. ⌜ (r ≡ length (shownMessage observer (messageAt (slotsIn (now (table .entry))) slot i))) × (r ≤ 6)
+        × (now (out .exit) ≡ overwrite (shownMessage observer (messageAt (slotsIn (now (table .entry))) slot i)) (now (out .entry))) ⌝ }
 {
     let label = table::message_label(table, slot, i);
     if label::flows(label, observer) {
@@ -235,8 +237,10 @@ fn write_fields(out: &mut [u8], size: usize, kind: u8, label: u8, spare: u8, pc:
 
 // Writes a task that the observer sees: the record's length, the fields, the registers and the mailbox. How many bytes.
 fn write_task(out: &mut [u8], table: &[u32; 3328], slot: usize, observer: u8) -> usize
-    requires { ⌜ (length (taskAt (slotsIn (now table)) slot .registers) ≡ 8) × (39 + length (encodeItems (shownMessage observer) (taskAt (slotsIn (now table)) slot .mailbox)) ≤ length (now out)) ⌝ }
-    ensures { λ r. ⌜ (r ≡ length (shownTask observer (taskAt (slotsIn (now (table .entry))) slot))) × (r ≤ 423) × (now (out .exit) ≡ overwrite (shownTask observer (taskAt (slotsIn (now (table .entry))) slot)) (now (out .entry))) ⌝ }
+    requires { ⌜ (length (taskAt (slotsIn (now table)) slot .registers) ≡ 8)
+        × (39 + length (encodeItems (shownMessage observer) (taskAt (slotsIn (now table)) slot .mailbox)) ≤ length (now out)) ⌝ }
+    ensures { λ r. ⌜ (r ≡ length (shownTask observer (taskAt (slotsIn (now (table .entry))) slot))) × (r ≤ 423)
+        × (now (out .exit) ≡ overwrite (shownTask observer (taskAt (slotsIn (now (table .entry))) slot)) (now (out .entry))) ⌝ }
 {
     let n = mailbox_size(table, slot, observer);
     let kind = table::kind(table, slot);
@@ -252,7 +256,8 @@ fn write_task(out: &mut [u8], table: &[u32; 3328], slot: usize, observer: u8) ->
 // Writes a slot's record behind its length; where the observer sees no task, the slot is written as unused. How many bytes.
 fn write_slot(out: &mut [u8], table: &[u32; 3328], slot: usize, observer: u8) -> usize
     requires { ⌜ length (shownSlot observer (slotAt (slotsIn (now table)) slot)) ≤ length (now out) ⌝ }
-    ensures { λ r. ⌜ (r ≡ length (shownSlot observer (slotAt (slotsIn (now (table .entry))) slot))) × (r ≤ 423) × (now (out .exit) ≡ overwrite (shownSlot observer (slotAt (slotsIn (now (table .entry))) slot)) (now (out .entry))) ⌝ }
+    ensures { λ r. ⌜ (r ≡ length (shownSlot observer (slotAt (slotsIn (now (table .entry))) slot))) × (r ≤ 423)
+        × (now (out .exit) ≡ overwrite (shownSlot observer (slotAt (slotsIn (now (table .entry))) slot)) (now (out .entry))) ⌝ }
 {
     if is_shown(table, slot, observer) {
         write_task(out, table, slot, observer)
@@ -289,7 +294,8 @@ fn write_head(out: &mut [u8], program: &[u8], turn: u8)
 // Writes the table's tasks as the observer sees them, with the image's program, as an image: its length, and its bytes
 // where the output has room for them all.
 pub fn write(out: &mut [u8], table: &[u32; 3328], image: &[u8], turn: u8, observer: u8) -> usize
-    ensures { λ r. ⌜ (r ≡ length (snapshotBytes (now (table .entry)) (now (image .entry)) turn observer)) × (now (out .exit) ≡ written (snapshotBytes (now (table .entry)) (now (image .entry)) turn observer) (now (out .entry))) ⌝ }
+    ensures { λ r. ⌜ (r ≡ length (snapshotBytes (now (table .entry)) (now (image .entry)) turn observer))
+        × (now (out .exit) ≡ written (snapshotBytes (now (table .entry)) (now (image .entry)) turn observer) (now (out .entry))) ⌝ }
 {
     let program = image::program(image);
     let head = image::PROGRAM_AT + program.len() + 1;

@@ -15,16 +15,13 @@ use Rattle.table.proofs.Window.{window-length}
 use Rattle.table.proofs.Task.{kind-stored}
 use Rattle.table.proofs.Slots.{slot-in, slot-any, slots-set}
 
-held-none : (k : Task) → taskOr (held k) .kind ≡ 0 → held k ≡ unused
-held-none k = split (eqb (k .kind) 0) (λ z. rw z (λ e. refl)) (λ z. rw z (λ e. cc (rw e at z)))
-
 held-some : (k : Task) → 0 < taskOr (held k) .kind → held k ≡ used k
 held-some k = split (eqb (k .kind) 0) (λ z. rw z (λ e. absurd (omega arith))) (λ z. rw z (λ e. refl))
 
 module _ (t : List ℕ) (s x : ℕ) where
   pub kind-kept : taskAt (slotsIn t) s .kind ≡ 0 → set (slotsIn t) s (slotWithKind x (slotAt (slotsIn t) s)) ≡ slotsIn t
   kind-kept e =
-      let none : slotAt (slotsIn t) s ≡ unused = slot-any (λ y. taskOr y .kind ≡ 0 → y ≡ unused) (λ _. refl) (λ w. held-none (taskIn w)) t s e in
+      let none : slotAt (slotsIn t) s ≡ unused = slot-any (λ y. taskOr y .kind ≡ 0 → y ≡ unused) (λ _. refl) (λ w some z. absurd (some z)) t s e in
       rw none (rw none at (set-getD (slotsIn t) s unused))
 
   module _ (u : List ℕ) (full : length t ≡ 3328) (small : x < 256) (p : SlotStored s (λ w. set w 0 x) t u) where

@@ -1,17 +1,16 @@
 -- Laws of the messages that a slot's words hold: where their words stand, and what a message stored changes in the task.
 use Prim.Native.Nat.{ℕ, _+_, _%_, _<_}
-use mathlib.Core.Path.{_≡_, _∙_}
+use mathlib.Core.Path.{_≡_, ap, _∙_}
 use mathlib.Core.Logic.{_≢_}
 use mathlib.Core.List.{List}
 use native.Mathlib.Omega.{arith}
-use lib.ListN.{length, getD, take, drop, set, length-set}
+use lib.ListN.{length, getD, take, set, length-set}
 use lib.Seq.{getD-drop, getD-set-same, getD-set-other}
-use Rattle.wire.specs.Lists.{tabulate}
 use Rattle.wire.proofs.Tabulate.{tabulate-set}
 use Rattle.machine.specs.State.{Message, withMailbox}
 use Rattle.table.specs.Table.{messageIn, messagesIn, taskIn}
 use Rattle.table.specs.Words.{storeMessage}
-use Rattle.table.proofs.Task.{low-byte, registers-kept}
+use Rattle.table.proofs.Task.{low-byte, fields-kept}
 
 pub message-words : (w : List ℕ) (i : ℕ)
     → messageIn w i ≡ record { label = getD w (16 + i) 0 % 256; sender = getD w (80 + i) 0 % 256; value = getD w (144 + i) 0 }
@@ -65,22 +64,7 @@ module _ (i : ℕ) (m : Message) (w : List ℕ) where
     field-kept : (k : ℕ) → k < 16 → getD (storeMessage i m w) k 0 ≡ getD w k 0
     field-kept k h = word-kept k (λ e. omega arith) (λ e. omega arith) (λ e. omega arith)
 
-    registers-stay : tabulate 8 (λ b. getD (drop 4 (storeMessage i m w)) b 0) ≡ tabulate 8 (λ b. getD (drop 4 w) b 0)
-    unfolding storeMessage
-    registers-stay =
-        registers-kept (144 + i) (m .value) sent (omega arith) ∙ registers-kept (80 + i) (m .sender) labelled (omega arith)
-        ∙ registers-kept (16 + i) (m .label) w (omega arith)
-
     pub message-stored : length w ≡ 208 → m .label < 256 → m .sender < 256
         → taskIn (storeMessage i m w) ≡ withMailbox (take (getD w 12 0) (set (messagesIn w) i m)) (taskIn w)
-    unfolding taskIn
     message-stored long a b =
-        rw (
-          field-kept 0 (omega arith),
-          field-kept 1 (omega arith),
-          field-kept 2 (omega arith),
-          field-kept 3 (omega arith),
-          field-kept 12 (omega arith),
-          registers-stay,
-          messages-stored long a b,
-        )
+        fields-kept w (storeMessage i m w) field-kept ∙ ap (λ (ms : List Message). withMailbox (take (getD w 12 0) ms) (taskIn w)) (messages-stored long a b)

@@ -6,15 +6,15 @@ use native.Mathlib.Decide.{ℕ-discrete}
 use mathlib.Core.List.{List}
 use native.Mathlib.Numerals.{add-one}
 use native.Mathlib.Omega.{arith}
-use lib.ListN.{length, getD, take, drop, set, length-set}
-use lib.Seq.{getD-drop, getD-set-same, getD-set-other}
-use Rattle.wire.proofs.Tabulate.{tabulate-same, take-tabulate, tabulate-without}
+use lib.ListN.{length, getD, take, set, length-set}
+use lib.Seq.{getD-set-same, getD-set-other}
+use Rattle.wire.proofs.Tabulate.{take-tabulate, tabulate-without}
 use Rattle.machine.specs.State.{withMailbox}
-use Rattle.wire.specs.Lists.{tabulate, without}
+use Rattle.wire.specs.Lists.{without}
 use Rattle.table.specs.Table.{window, messageIn, messagesIn, taskIn}
 use Rattle.table.specs.Words.{SlotStored, shifted}
 use Rattle.table.proofs.Window.{word-at, stored-set, stored-then}
-use Rattle.table.proofs.Task.{count-stored}
+use Rattle.table.proofs.Task.{count-stored, fields-kept}
 use Rattle.table.proofs.Message.{message-words}
 
 -- ---- one word after another
@@ -35,14 +35,14 @@ length-shifted zero a w = refl
 length-shifted (suc n) a w = length-shifted n (suc a) (set w a (getD w (suc a) 0)) ∙ length-set w a (getD w (suc a) 0)
 
 -- a word outside stays, and a word inside is the one that stood behind it
-pub shifted-outside : (n a : ℕ) (w : List ℕ) (j : ℕ) → (a ≤ j → a + n ≤ j) → getD (shifted a n w) j 0 ≡ getD w j 0
+shifted-outside : (n a : ℕ) (w : List ℕ) (j : ℕ) → (a ≤ j → a + n ≤ j) → getD (shifted a n w) j 0 ≡ getD w j 0
 unfolding shifted
 shifted-outside zero a w j h = refl
 shifted-outside (suc n) a w j h =
     shifted-outside n (suc a) (set w a (getD w (suc a) 0)) j (λ l. omega (arith, h (omega arith)))
     ∙ getD-set-other w a j (getD w (suc a) 0) 0 (λ e. omega (arith, h (omega arith)))
 
-pub shifted-inside : (n a : ℕ) (w : List ℕ) (j : ℕ) → a ≤ j → j < a + n → a + n < length w → getD (shifted a n w) j 0 ≡ getD w (j + 1) 0
+shifted-inside : (n a : ℕ) (w : List ℕ) (j : ℕ) → a ≤ j → j < a + n → a + n < length w → getD (shifted a n w) j 0 ≡ getD w (j + 1) 0
 unfolding shifted
 shifted-inside zero a w j l h long = absurd (omega arith)
 shifted-inside (suc n) a w j l h long =
@@ -126,22 +126,8 @@ module _ (i n : ℕ) (w : List ℕ) (long : length w ≡ 208) (fits : i + n < 64
   field-kept : (j : ℕ) → j < 16 → getD columns j 0 ≡ getD w j 0
   field-kept j h = outside j (λ l. omega arith) (λ l. omega arith) (λ l. omega arith)
 
-  registers-kept : tabulate 8 (λ b. getD (drop 4 columns) b 0) ≡ tabulate 8 (λ b. getD (drop 4 w) b 0)
-  registers-kept =
-      tabulate-same 8 (λ b. getD (drop 4 w) b 0) (λ b. getD (drop 4 columns) b 0)
-      (λ b h. getD-drop 4 columns b 0 ∙ field-kept (4 + b) (omega arith) ∙ sym (getD-drop 4 w b 0))
-
   -- and the number of messages is one less
   pub message-removed : taskIn (set columns 12 (i + n)) ≡ withMailbox (without i (take (suc (i + n)) (messagesIn w))) (taskIn w)
-  unfolding taskIn
   message-removed =
       let four : length columns ≡ 208 = length-shifted n (144 + i) senders ∙ length-shifted n (80 + i) labels ∙ length-shifted n (16 + i) w ∙ long in
-      count-stored (i + n) columns four
-      ∙ rw (
-        messages-shifted,
-        field-kept 0 (omega arith),
-        field-kept 1 (omega arith),
-        field-kept 2 (omega arith),
-        field-kept 3 (omega arith),
-        registers-kept,
-      )
+      count-stored (i + n) columns four ∙ rw (messages-shifted, fields-kept w columns field-kept)

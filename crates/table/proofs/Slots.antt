@@ -1,5 +1,5 @@
 -- Laws of the sixteen slots that the table's words mean.
-use Prim.Native.Nat.{ℕ, _%_, _<_, _≤_, min}
+use Prim.Native.Nat.{ℕ, _+_, _%_, _<_, _≤_, min}
 use mathlib.Core.Path.{_≡_, refl, sym, ap, _∙_}
 use mathlib.Core.Logic.{_≢_, dite}
 use mathlib.Core.List.{List}
@@ -18,6 +18,7 @@ use Rattle.table.specs.Change.{noMessage, noTask, taskOr, taskAt, messag
 use Rattle.table.specs.Words.{fieldWord, SlotStored}
 use Rattle.table.proofs.Change.{length-slots}
 use Rattle.table.proofs.Window.{window-length, window-past}
+use Rattle.table.proofs.Message.{message-words}
 
 slot-past : (t : List ℕ) (s : ℕ) → 16 ≤ s → slotAt (slotsIn t) s ≡ unused
 slot-past t s h = List·getD-eq-default (slotsIn t) unused (rw length-slots h)
@@ -26,7 +27,7 @@ pub slot-in : (t : List ℕ) (s : ℕ) → s < 16 → slotAt (slotsIn t) s ≡ h
 unfolding slotsIn
 slot-in t s h = getD-tabulate 16 (λ j. held (taskIn (window t j))) s unused h
 
-pub slot-at : (t : List ℕ) (s : ℕ) → length t ≡ 3328 → slotAt (slotsIn t) s ≡ held (taskIn (window t s))
+slot-at : (t : List ℕ) (s : ℕ) → length t ≡ 3328 → slotAt (slotsIn t) s ≡ held (taskIn (window t s))
 unfolding taskIn
 slot-at t s full =
     dite (decLt s 16) (slot-in t s) (λ l. let past : 16 ≤ s = omega arith in rw (window-past t s full past) (slot-past t s past))
@@ -70,30 +71,29 @@ held-used : (j k : Task) → held j ≡ used k → j ≡ k
 held-used j k = split (eqb (j .kind) 0) (λ z. rw z (λ e. cc)) (λ z. rw z (λ e. cc))
 
 -- what holds of every slot that is read, whatever the table's length
-pub slot-any : (P : Slot → Type 0) → P unused → ((w : List ℕ) → P (held (taskIn w))) → (t : List ℕ) (s : ℕ) → P (slotAt (slotsIn t) s)
-slot-any P none some t s = dite (decLt s 16) (λ l. rw (slot-in t s l) (some (window t s))) (λ l. rw (slot-past t s (omega arith)) none)
+pub slot-any : (P : Slot → Type 0) → P unused → ((w : List ℕ) → taskIn w .kind ≢ 0 → P (used (taskIn w))) → (t : List ℕ) (s : ℕ) → P (slotAt (slotsIn t) s)
+slot-any P none some t s =
+    dite (decLt s 16)
+    (λ l. rw (slot-in t s l)
+    (split (eqb (taskIn (window t s) .kind) 0) (λ z. rw z none) (λ z. rw z (some (window t s) (eqb-false (taskIn (window t s) .kind) 0 z)))))
+    (λ l. rw (slot-past t s (omega arith)) none)
 
 -- a task in the table has a kind, and eight registers
-clash : (k : Task) → unused ≡ used k → ⊥
-clash k e = let z : _≡_ {A = ℕ} 0 1 = cc in omega arith
-
-held-kind : (j k : Task) → held j ≡ used k → k .kind ≢ 0
-held-kind j k = split (eqb (j .kind) 0) (λ z. rw z (λ e. absurd (clash k e))) (λ z. rw z (λ e. let same : j ≡ k = cc in rw same at (eqb-false (j .kind) 0 z)))
-
 pub used-kind : (t : List ℕ) (s : ℕ) (k : Task) → slotAt (slotsIn t) s ≡ used k → k .kind ≢ 0
-used-kind = slot-any (λ x. (k : Task) → x ≡ used k → k .kind ≢ 0) (λ k e. absurd (clash k e)) (λ w k e. held-kind (taskIn w) k e)
+used-kind =
+    slot-any (λ x. (k : Task) → x ≡ used k → k .kind ≢ 0) (λ k e. let z : _≡_ {A = ℕ} 0 1 = cc in absurd (omega arith))
+    (λ w some k e. let same : taskIn w ≡ k = cc in rw same at some)
 
 pub used-registers : (t : List ℕ) (s : ℕ) (k : Task) → slotAt (slotsIn t) s ≡ used k → length (k .registers) ≡ 8
 unfolding taskIn
 used-registers =
     slot-any (λ x. (k : Task) → x ≡ used k → length (k .registers) ≡ 8) (λ k e. cc)
-    (λ w k e. rw (← held-used (taskIn w) k e) (length-tabulate 8 (λ a. getD (drop 4 w) a 0)))
+    (λ w _ k e. let same : taskIn w ≡ k = cc in rw (← same) (length-tabulate 8 (λ a. getD (drop 4 w) a 0)))
 
 pub registers-short : (t : List ℕ) (s : ℕ) → length (taskAt (slotsIn t) s .registers) ≤ 8
 unfolding taskIn
 registers-short =
-    slot-any (λ x. length (taskOr x .registers) ≤ 8) (omega arith)
-    (λ w. split (eqb (getD w 0 0 % 256) 0) (λ z. rw z (omega arith)) (λ z. rw z (rw length-tabulate (omega arith))))
+    slot-any (λ x. length (taskOr x .registers) ≤ 8) (omega arith) (λ w _. rw length-tabulate (omega arith))
 
 module _ (t : List ℕ) (s : ℕ) (full : length t ≡ 3328) where
   pub used-task : (k : Task) → slotAt (slotsIn t) s ≡ used k → k ≡ taskIn (window t s)
@@ -109,7 +109,9 @@ module _ (t : List ℕ) (s : ℕ) (full : length t ≡ 3328) where
   unfolding taskIn messagesIn
   mailbox-read = field-read 12 (λ k. length (k .mailbox)) (λ x. min x 64) refl (sym (rw (length-take, length-tabulate)))
 
-  pub message-read : (i : ℕ) → i < length (taskAt (slotsIn t) s .mailbox) → messageAt (slotsIn t) s i ≡ messageIn (window t s) i
+  -- message i, by its words
+  pub message-read : (i : ℕ) → i < length (taskAt (slotsIn t) s .mailbox) → messageAt (slotsIn t) s i
+      ≡ record { label = getD (window t s) (16 + i) 0 % 256; sender = getD (window t s) (80 + i) 0 % 256; value = getD (window t s) (144 + i) 0 }
   unfolding taskIn messagesIn
   message-read i =
       let w = window t s in
@@ -117,4 +119,8 @@ module _ (t : List ℕ) (s : ℕ) (full : length t ≡ 3328) where
       (split (eqb (getD w 0 0 % 256) 0)
       (λ z. rw z (λ h. absurd (omega arith)))
       (λ z. rw (z, length-take, length-tabulate)
-      (λ h. getD-take (getD w 12 0) (tabulate 64 (messageIn w)) i noMessage (omega arith) ∙ getD-tabulate 64 (messageIn w) i noMessage (omega arith))))
+      (λ h. getD-take (getD w 12 0) (tabulate 64 (messageIn w)) i noMessage (omega arith) ∙ getD-tabulate 64 (messageIn w) i noMessage (omega arith) ∙ message-words w i)))
+
+-- and past the last
+pub message-past : (t : List ℕ) (s i : ℕ) → length (taskAt (slotsIn t) s .mailbox) ≤ i → messageAt (slotsIn t) s i ≡ noMessage
+message-past t s i h = List·getD-eq-default (taskAt (slotsIn t) s .mailbox) noMessage h

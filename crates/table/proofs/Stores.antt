@@ -5,7 +5,7 @@ use mathlib.Core.List.{List}
 use native.Mathlib.Omega.{arith}
 use lib.ListN.{length, getD, take, set, length-set}
 use Rattle.wire.specs.Lists.{without}
-use Rattle.wire.proofs.Lists.{take-length-take}
+use Rattle.wire.proofs.Lists.{take-length-take, take-append}
 use Rattle.wire.proofs.Tabulate.{length-tabulate}
 use Rattle.machine.specs.State.{Message, Task, used, slotAt, withMailbox}
 use Rattle.table.specs.Table.{window, messageIn, messagesIn, taskIn, slotsIn}
@@ -16,7 +16,6 @@ use Rattle.table.proofs.Task.{count-stored}
 use Rattle.table.proofs.Message.{messages-stored, message-stored}
 use Rattle.table.proofs.Change.{change-same}
 use Rattle.table.proofs.Slots.{slots-change, used-task}
-use Rattle.table.proofs.Mailbox.{take-append}
 use Rattle.table.proofs.Shift.{length-shifted, stored-shifted, message-removed}
 
 length-messages : (w : List ℕ) → length (messagesIn w) ≡ 64

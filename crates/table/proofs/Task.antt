@@ -1,11 +1,11 @@
 -- Laws of the task that a slot's words hold: what a store of each of its words changes in it.
-use Prim.Native.Nat.{ℕ, _+_, _-_, _%_, _<_, _≤_}
+use Prim.Native.Nat.{ℕ, _+_, _%_, _<_}
 use mathlib.Core.Path.{_≡_, refl, sym, ap, _∙_}
 use mathlib.Core.Logic.{_≢_}
 use mathlib.Core.List.{List, _++_}
 use native.Mathlib.Omega.{arith}
 use lib.ListN.{length, getD, take, drop, set, length-drop}
-use lib.Seq.{drop-set-add, drop-set-lt, getD-set-same, getD-set-other, drop-drop}
+use lib.Seq.{getD-drop, drop-set-add, drop-set-lt, getD-set-same, getD-set-other, drop-drop}
 use Rattle.wire.specs.Lists.{tabulate}
 use Rattle.wire.proofs.Tabulate.{tabulate-same, tabulate-set, tabulate-front}
 use Rattle.machine.specs.State.{withKind, withLabel, withSpare, withPc, withRegister, withMailbox}
@@ -55,7 +55,7 @@ messages-kept w u e =
     let g : drop 144 u ≡ drop 144 w = sym (drop-drop 128 16 u) ∙ ap (drop 128) e ∙ drop-drop 128 16 w in
     tabulate-same 64 (messageIn w) (messageIn u) (λ i h. rw (e, f, g))
 
--- a word is stored among the registers, or past them
+-- a word is stored among the registers
 registers-stored : (a x : ℕ) (w : List ℕ) → length w ≡ 208 → a < 8
     → tabulate 8 (λ b. getD (drop 4 (set w (4 + a) x)) b 0) ≡ set (tabulate 8 (λ b. getD (drop 4 w) b 0)) a x
 registers-stored a x w long h =
@@ -63,12 +63,6 @@ registers-stored a x w long h =
     rw (drop-set-add)
     (tabulate-set 8 (λ b. getD (drop 4 w) b 0) (λ b. getD (set (drop 4 w) a x) b 0) a (λ b l ne. getD-set-other (drop 4 w) a b x 0 ne) h
     ∙ ap (set (tabulate 8 (λ b. getD (drop 4 w) b 0)) a) (getD-set-same (drop 4 w) a x 0 inside))
-
-pub registers-kept : (n x : ℕ) (w : List ℕ) → 12 ≤ n → tabulate 8 (λ b. getD (drop 4 (set w n x)) b 0) ≡ tabulate 8 (λ b. getD (drop 4 w) b 0)
-registers-kept n x w h =
-    let e : n ≡ 4 + (n - 4) = omega arith in
-    tabulate-same 8 (λ b. getD (drop 4 w) b 0) (λ b. getD (drop 4 (set w n x)) b 0)
-    (λ b l. rw (e, drop-set-add) (getD-set-other (drop 4 w) (n - 4) b x 0 (λ f. omega arith)))
 
 pub register-stored : (a x : ℕ) (w : List ℕ) → length w ≡ 208 → a < 8 → taskIn (set w (4 + a) x) ≡ withRegister a x (taskIn w)
 unfolding taskIn
@@ -82,4 +76,17 @@ register-stored a x w long h =
       same 12 (λ e. omega arith),
       registers-stored a x w long h,
       messages-kept w (set w (4 + a) x) (drop-set-lt 16 w (4 + a) x (omega arith)),
+    )
+
+-- a task whose first sixteen words stay: only its mailbox may change
+pub fields-kept : (w u : List ℕ) → ((k : ℕ) → k < 16 → getD u k 0 ≡ getD w k 0) → taskIn u ≡ withMailbox (take (getD w 12 0) (messagesIn u)) (taskIn w)
+unfolding taskIn
+fields-kept w u same =
+    rw (
+      same 0 (omega arith),
+      same 1 (omega arith),
+      same 2 (omega arith),
+      same 3 (omega arith),
+      same 12 (omega arith),
+      tabulate-same 8 (λ b. getD (drop 4 w) b 0) (λ b. getD (drop 4 u) b 0) (λ b h. getD-drop 4 u b 0 ∙ same (4 + b) (omega arith) ∙ sym (getD-drop 4 w b 0)),
     )

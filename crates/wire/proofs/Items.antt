@@ -1,9 +1,9 @@
 -- Items to bytes and back, for every width and every kind of item.
-use Prim.Native.Nat.{ℕ, zero, suc, _+_, _*_, _<_, _≤_}
+use Prim.Native.Nat.{ℕ, zero, suc, _+_, _*_, _-_, _<_, _≤_}
 use mathlib.Core.Path.{_≡_, refl, sym, ap, ap₂, _∙_}
 use mathlib.Core.Bool.{Bool, cond}
 use mathlib.Core.List.{List, [], _∷_, _++_, map, append-assoc}
-use native.Mathlib.Nat.{mul-zero, mul-suc}
+use native.Mathlib.Nat.{mul-zero, mul-one, mul-suc, not-suc-le-zero, le-of-suc-le-suc}
 use native.Mathlib.Numerals.{add-one}
 use native.Mathlib.Omega.{arith}
 use lib.ListN.{length, getD, take, drop, length-append, length-drop, drop-of-length-le}
@@ -23,13 +23,21 @@ module _ {A : Type 0} (w : ℕ) (f : List ℕ → A) where
       let e : w + w * i ≡ w * suc i = rw mul-suc (omega arith) in
       drop-drop (w * i) w b ∙ ap (λ (n : ℕ). drop n b) e
 
+  -- item j stands behind the first j, and others behind it
+  pub decode-at : (k j : ℕ) (b : List ℕ) → j < k
+      → decodeItems w f k b ≡ decodeItems w f j b ++ f (drop (w * j) b) ∷ decodeItems w f (k - (j + 1)) (drop (w * (j + 1)) b)
+  unfolding decodeItems
+  decode-at zero j b h = absurd (not-suc-le-zero h)
+  decode-at (suc k) zero b h = let e : suc k - 1 ≡ k = omega arith in rw (e, mul-zero, mul-one)
+  decode-at (suc k) (suc j) b h =
+      let d : suc k - (suc j + 1) ≡ k - (j + 1) = omega arith in
+      let e : suc j + 1 ≡ suc (j + 1) = omega arith in
+      rw (d, e, ← drop-item j b, ← drop-item (j + 1) b) (ap (λ (r : List A). f b ∷ r) (decode-at k j (drop w b) (le-of-suc-le-suc h)))
+
   -- one item more
   pub decode-more : (k : ℕ) (b : List ℕ) → decodeItems w f (suc k) b ≡ decodeItems w f k b ++ (f (drop (w * k) b) ∷ [])
   unfolding decodeItems
-  decode-more zero b = rw mul-zero
-  decode-more (suc k) b =
-      ap (λ (r : List A). f b ∷ r)
-      (decode-more k (drop w b) ∙ ap (λ (c : List ℕ). decodeItems w f k (drop w b) ++ (f c ∷ [])) (drop-item k b))
+  decode-more k b = let e : suc k - (k + 1) ≡ 0 = omega arith in decode-at (suc k) k b (omega arith) ∙ rw e
 
   -- what holds of each item that f reads from bytes
   pub every-decode : (P : A → Type 0) → ((b : List ℕ) → Bytes b → P (f b)) → (k : ℕ) (b : List ℕ) → Bytes b → Every P (decodeItems w f k b)

@@ -1,15 +1,16 @@
--- Laws of the tests and filters over lists.
+-- Laws of lists: an element changed, a front or all but one element taken, tests and filters.
 use Prim.Native.Nat.{ℕ, zero, suc, _+_, _≤_, _<_}
-use mathlib.Core.Path.{_≡_, refl, ap}
+use mathlib.Core.Path.{_≡_, refl, sym, ap}
 use mathlib.Core.Bool.{Bool, true, false, _&&_}
-use mathlib.Core.List.{List, [], _∷_, _++_, map, head?}
+use mathlib.Core.List.{List, [], _∷_, _++_, map, head?, append-nil}
 use mathlib.Core.Option.{some}
 use native.Mathlib.Decide.{decLe}
 use native.Mathlib.Nat.{not-suc-le-zero}
 use native.Mathlib.Numerals.{add-one}
 use native.Mathlib.Omega.{arith}
-use lib.ListN.{length, getD, set, take, drop}
-use Rattle.wire.specs.Lists.{each, Every, all, keep, dropFirst, IsByte, Bytes}
+use lib.ListN.{length, getD, set, take, drop, length-append, drop-of-length-le}
+use lib.Seq.{take-all, take-suc-set}
+use Rattle.wire.specs.Lists.{each, without, Every, all, keep, dropFirst, IsByte, Bytes}
 
 -- ---- cases
 
@@ -85,6 +86,16 @@ module _ {A : Type 0} where
   take-length-take (suc n) [] = refl
   take-length-take (suc n) (x ∷ l) = rw (← take-length-take n l)
 
+  -- one more where there is room for it
+  pub take-append : (c n room : ℕ) (l : List A) (x : A) → length l ≡ room → n ≡ length (take c l) → n < room
+      → take (n + 1) (set l n x) ≡ take room (take c l ++ (x ∷ []))
+  take-append c n room l x long count h =
+      let same : take n l ≡ take c l = rw count (sym (take-length-take c l)) in
+      rw (add-one, take-suc-set l n x (omega arith), same) (sym (take-all room (take c l ++ (x ∷ [])) (simp length-append (omega arith))))
+
+  pub without-past : (i : ℕ) (l : List A) → length l ≤ i → without i l ≡ l
+  without-past i l h = rw (take-all i l h, drop-of-length-le l {i = suc i} (omega arith), append-nil)
+
 -- ---- every element
 
 module _ {A : Type 0} (P : A → Type 0) where
@@ -137,9 +148,14 @@ module _ {A : Type 0} (P : A → Type 0) where
 pub byte-at : (s : List ℕ) → Bytes s → (i : ℕ) → getD s i 0 < 256
 byte-at s h i = every-at IsByte 0 (omega arith) s h i
 
--- ---- filters
+-- ---- tests and filters
 
 module _ {A : Type 0} where
+  pub all-append : (p : A → Bool) (xs ys : List A) → all p (xs ++ ys) ≡ all p xs && all p ys
+  unfolding all
+  all-append p [] ys = refl
+  all-append p (x ∷ xs) ys = let ih = all-append p xs ys in split (p x) (λ e. rw (e, ih)) (λ e. rw e)
+
   pub keep-append : (p : A → Bool) (xs ys : List A) → keep p (xs ++ ys) ≡ keep p xs ++ keep p ys
   keep-append p [] ys = refl
   keep-append p (x ∷ xs) ys = let h = keep-append p xs ys in split (p x) (λ e. rw (e, h)) (λ e. rw (e, h))

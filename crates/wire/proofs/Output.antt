@@ -42,14 +42,24 @@ length-written w out =
 pub copy-next : {A : Type 0} (s d : List A) (i : ℕ) (z : A) → i < length s → i < length d → set (take i s ++ drop i d) i (getD s i z) ≡ take (i + 1) s ++ drop (i + 1) d
 copy-next s d i z h k = rw add-one (simp zero-add at (paste-suc d 0 s i z (rw zero-add k) h))
 
+-- and all of it
+pub copy-all : {A : Type 0} (s d : List A) (n : ℕ) → length s ≤ n → length d ≤ n → take n s ++ drop n d ≡ s
+copy-all s d n h k = rw (take-all n s h, drop-of-length-le d {i = n} k, append-nil)
+
+-- an output once w was written at its front, a bytes: those, and what stands behind them
+module _ {xs : List ℕ} (w out : List ℕ) (a : ℕ) (h : length w ≡ a) (e : xs ≡ overwrite w out) where
+  written-front : take a xs ≡ w
+  written-front = rw (e, h) (take-at w (drop a out) a h)
+
+  written-behind : drop a xs ≡ drop a out
+  written-behind = rw (e, h) (drop-at w (drop a out) a h)
+
 -- a run of stores behind what was written before
 pub stores-behind : (w v out xs : List ℕ) (a : ℕ) → length w ≡ a → length w + length v ≤ length out → xs ≡ overwrite w out → sets xs a v ≡ overwrite (w ++ v) out
 stores-behind w v out xs a h room e =
     let long : length xs ≡ length out = rw e (length-overwrite w out (omega arith)) in
-    let front : take a xs ≡ w = rw (e, h) (take-at w (drop a out) a h) in
-    let back : drop a xs ≡ drop a out = rw (e, h) (drop-at w (drop a out) a h) in
     sets-eq v xs a (omega arith)
-    ∙ rw (front, ← drop-drop (length v) a xs, back) (simp (length-append, drop-drop, h))
+    ∙ rw (written-front w out a h e, ← drop-drop (length v) a xs, written-behind w out a h e) (simp (length-append, drop-drop, h))
 
 -- ---- a part of an output that is lent
 
@@ -61,10 +71,8 @@ rest a s = take-all (length s - a) (drop a s) (le-of-eq (length-drop a s))
 pub lent : {xs ys : List ℕ} (w v out : List ℕ) (a : ℕ) → length w ≡ a
     → xs ≡ overwrite w out → ys ≡ overwrite v (take (length xs - a) (drop a xs)) → putMid a (length xs - a) xs ys ≡ overwrite (w ++ v) out
 lent {xs} {ys} w v out a h e f =
-    let d : drop a xs ≡ drop a out = rw (e, h) (drop-at w (drop a out) a h) in
-    let t : take a xs ≡ w = rw (e, h) (take-at w (drop a out) a h) in
     let p : drop (length xs - a) (drop a xs) ≡ [] = drop-of-length-le (drop a xs) (le-of-eq (length-drop a xs)) in
-    rw (f, t, rest, p, d) (simp (append-nil, append-assoc, length-append, drop-drop, h))
+    rw (f, written-front w out a h e, rest, p, written-behind w out a h e) (simp (append-nil, append-assoc, length-append, drop-drop, h))
 
 -- the same by a write that has room
 pub lent-fits : {xs ys : List ℕ} (w v out : List ℕ) (a : ℕ) → length w ≡ a → length w + length v ≤ length out

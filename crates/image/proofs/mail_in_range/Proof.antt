@@ -1,14 +1,11 @@
 -- `image::mail_in_range` meets its contract: the counts are those of the messages read, which are in range.
-use Prim.Native.Nat.{_≤_, _-_, _/_, _<_}
+use Prim.Native.Nat.{_≤_, _-_, _/_}
 use mathlib.Core.Path.{_≡_, sym}
-use borrow.Author.Tests.{leb-true}
 use native.Mathlib.Omega.{arith}
 use denote.Ref.{now}
-use lib.Dec.{leb}
 use lib.ListN.{length}
 use Rattle.wire.specs.Items.{decodeItems}
-use Rattle.wire.proofs.Lists.{and-both}
-use Rattle.image.proofs.Mail.{messages, Counted, counted-none, counted-mail, message-counted, message-fifth, message-out-of-range}
+use Rattle.image.proofs.Mail.{messages, label-low, Counted, counted-none, counted-mail, message-counted, message-fifth, message-out-of-range}
 use Rattle.image.proofs.mail_in_range.Statement.{statement}
 use Rattle.image.proofs.mail_in_range.Tie as tie
 
@@ -17,10 +14,6 @@ Inv-loop task mailbox k counts₀ j₀ counts j = (j ≤ k) × Counted counts (m
 
 abbrev μ-loop : tie.MeasureT-loop
 μ-loop task mailbox k counts₀ j₀ counts j = k - j
-
--- a label in range has a count
-label-low : (c : tie.Then1 Inv-loop μ-loop) → c .before .before .byte-at .result < 16
-label-low c = omega (arith, leb-true (c .before .before .byte-at .result) 15 (and-both (leb (c .before .before .byte-at .result) 15) (leb (c .before .byte-at2 .result) 15) (c .if1 .taken) .0))
 
 loop-again : tie.Need-loop-again Inv-loop μ-loop
 loop-again c =
@@ -64,9 +57,9 @@ mail-in-range-spec =
     (λ c. omega arith)
     (λ c. omega arith)
     (λ c κs. tt)
-    (λ c. label-low c)
+    (λ c. label-low _ (c .before .byte-at2 .result) (c .if1 .taken))
     (λ c. omega arith)
-    (λ c. label-low (c .before))
+    (λ c. label-low _ (c .before .before .byte-at2 .result) (c .before .if1 .taken))
     (λ c. omega arith)
     (λ c. omega arith)
     loop-again

@@ -1,4 +1,4 @@
--- `image::program_length` meets its contract.
+-- `image::program_length` meets its contract, by what it calls.
 use Rattle.image.specs.Image.{programLength}
 use Rattle.image.proofs.program_length.Statement.{statement}
 use Rattle.image.proofs.program_length.Tie as tie

@@ -1,4 +1,4 @@
--- `image::record_length` meets its contract.
+-- `image::record_length` meets its contract, by what it calls.
 use Rattle.image.specs.Image.{recordLength}
 use Rattle.image.proofs.record_length.Statement.{statement}
 use Rattle.image.proofs.record_length.Tie as tie

@@ -13,7 +13,7 @@ use Rattle.image.specs.Image.{stateOf, imageBytes}
 use Rattle.snapshot.specs.Writing.{snapshotBytes}
 use Rattle.snapshot.proofs.Loading.{loaded-accepted}
 use Rattle.monitor.specs.Calls.{refusal, rewriteCall}
-use Rattle.monitor.proofs.Calls.{image-refused, image-accepted}
+use Rattle.monitor.proofs.Calls.{call-refused, call-accepted}
 use Rattle.monitor.proofs.Pipeline.{rewrite-bytes}
 use Rattle.monitor.proofs.rewrite.Statement.{statement}
 use Rattle.monitor.proofs.rewrite.Tie as tie
@@ -25,7 +25,7 @@ returns c =
     let image = now (a .image) in
     let out = now (a .out) in
     let accepted = sym (l .load .ensures .0) ∙ c .before .before .before .before .before .before .before .if1 .taken in
-    let laws = image-accepted (rewriteCall image) image out refl accepted in
+    let laws = call-accepted (rewriteCall image) image out refl accepted in
     let w = c .before .before .before .write in
     let turn = c .before .before .before .before .turn-slot .ensures in
     let bytes = every-of IsByte 0 image (λ i. l .before .before .before .shared-slice-known .given i .fits) in
@@ -42,7 +42,7 @@ returns-2 c =
     let l = c .before .before in
     let a = l .before .before .before .before .args in
     let number = l .load .ensures .0 in
-    let laws = image-refused (rewriteCall (now (a .image))) (now (a .image)) (now (a .out)) refl (λ e. c .before .if1 .left (number ∙ e)) in
+    let laws = call-refused (rewriteCall (now (a .image))) (now (a .image)) (now (a .out)) refl (λ e. c .before .if1 .left (number ∙ e)) in
     (c .refused .ensures ∙ ap refusal number ∙ sym (laws .0), sym (laws .1))
 
 pub rewrite-spec : {M : Type 1} → statement M

@@ -1,14 +1,15 @@
 -- `snapshot::load_mailbox` meets its contract: the first i messages are added.
-use Prim.Native.Nat.{_≤_, _-_, _/_}
+use Prim.Native.Nat.{_≤_, _-_, _*_, _/_}
 use mathlib.Core.Path.{_≡_, ap, _∙_}
 use native.Mathlib.Omega.{arith}
 use denote.Ref.{now}
 use lib.ListN.{length, drop}
+use Rattle.machine.specs.State.{Message}
 use Rattle.image.specs.Record.{messageOf}
 use Rattle.table.specs.Table.{slotsIn}
 use Rattle.table.specs.Change.{change, withMessage}
 use Rattle.snapshot.specs.Loading.{messagesAdded}
-use Rattle.snapshot.proofs.Loading.{message-is, messages-none, messages-next}
+use Rattle.snapshot.proofs.Loading.{messages-none, messages-next}
 use Rattle.snapshot.proofs.load_mailbox.Statement.{statement}
 use Rattle.snapshot.proofs.load_mailbox.Tie as tie
 
@@ -27,8 +28,12 @@ loop-again c =
     let value = c .before .before .before .before .decode-u32 in
     let rest = c .before .before .before .before .before .drop2 in
     let message = c .before .before .before .before .before .before .drop in
-    let m = message-is (label .result) (sender .result) (value .result) (now (message .result)) (now (rest .result)) (label .ensures) (sender .ensures) (value .ensures) (rest .ensures) ∙ ap messageOf (message .ensures) in
-    (omega arith, c .append .ensures ∙ ap (change (a .slot) (withMessage (record { label = label .result; sender = sender .result; value = value .result }))) (h .inv .1) ∙ messages-next (a .slot) (h .i) _ (now (a .mailbox)) (slotsIn (now (a .table))) m)
+    let m : Message = record { label = label .result; sender = sender .result; value = value .result } in
+    let e : m ≡ messageOf (drop (6 * h .i) (now (a .mailbox))) = rw (label .ensures, sender .ensures, value .ensures, rest .ensures, message .ensures) in (
+      omega arith,
+      c .append .ensures ∙ ap (change (a .slot) (withMessage m)) (h .inv .1)
+          ∙ messages-next (a .slot) (h .i) m (now (a .mailbox)) (slotsIn (now (a .table))) e,
+    )
 
 returns : tie.Need-returns Inv-loop μ-loop
 returns c =

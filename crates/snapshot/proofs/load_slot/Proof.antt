@@ -4,7 +4,7 @@ use native.Mathlib.Omega.{arith}
 use denote.Ref.{now}
 use lib.ListN.{set}
 use Rattle.table.specs.Table.{slotsIn}
-use Rattle.snapshot.proofs.Loading.{slot-none, slot-some}
+use Rattle.image.proofs.Records.{slot-none, slot-some}
 use Rattle.snapshot.proofs.load_slot.Statement.{statement}
 use Rattle.snapshot.proofs.load_slot.Tie as tie
 
@@ -16,7 +16,7 @@ returns c =
 returns-2 : tie.Need-returns-2
 returns-2 c =
     let a = c .before .before .before .before .args in
-    c .load-task .ensures ∙ ap (set (slotsIn (now (a .table))) (a .slot)) (sym (slot-some (now (a .bytes)) (omega arith)))
+    c .load-task .ensures ∙ ap (set (slotsIn (now (a .table))) (a .slot)) (sym (slot-some (now (a .bytes)) (λ z. omega arith)))
 
 pub load-slot-spec : {M : Type 1} → statement M
 load-slot-spec = tie.close (tie.spec (λ c κs. tt) (λ c κs. c .before .before .before .pre (omega arith)) returns returns-2)

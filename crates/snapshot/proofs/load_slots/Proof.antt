@@ -2,15 +2,17 @@
 use Prim.Native.Nat.{_-_, _*_, _≤_}
 use mathlib.Core.Path.{_≡_, refl, sym, ap, _∙_}
 use mathlib.Core.List.{_++_}
+use native.Mathlib.Nat.{le-of-eq}
 use native.Mathlib.Omega.{arith}
 use denote.Ref.{now}
 use lib.ListN.{take, drop}
+use Rattle.wire.proofs.Output.{copy-all}
 use Rattle.image.specs.Image.{recordLength, recordOf, skip, slotsOf}
 use Rattle.image.proofs.Walk.{skip-none}
 use Rattle.image.proofs.Slots.{length-slotsOf}
 use Rattle.table.specs.Table.{slotsIn}
 use Rattle.table.proofs.Change.{length-slots}
-use Rattle.snapshot.proofs.Loading.{drop-next, load-next, all-loaded}
+use Rattle.snapshot.proofs.Loading.{drop-next, load-next}
 use Rattle.snapshot.proofs.load_slots.Statement.{statement}
 use Rattle.snapshot.proofs.load_slots.Tie as tie
 
@@ -48,7 +50,7 @@ returns c =
     let a = c .before .before .before .args in
     let b = now (a .slots) in
     let end : c .before .loop .slot ≡ 16 = omega arith in
-    rw end at (c .before .loop .inv .3) ∙ all-loaded (slotsOf 16 b) (slotsIn (now (a .table))) (length-slotsOf 16 b) (length-slots (now (a .table)))
+    rw end at (c .before .loop .inv .3) ∙ copy-all (slotsOf 16 b) (slotsIn (now (a .table))) 16 (le-of-eq (length-slotsOf 16 b)) (le-of-eq (length-slots (now (a .table))))
 
 pub load-slots-spec : {M : Type 1} → statement M
 load-slots-spec =

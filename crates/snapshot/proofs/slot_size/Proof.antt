@@ -6,20 +6,15 @@ use denote.Ref.{now}
 use lib.ListN.{length}
 use Rattle.machine.specs.State.{slotAt}
 use Rattle.table.specs.Table.{slotsIn}
-use Rattle.table.specs.Change.{taskAt}
-use Rattle.table.proofs.Slots.{used-registers}
-use Rattle.snapshot.proofs.Writing.{task-length, shown-used, slot-shown, slot-hidden}
+use Rattle.snapshot.proofs.Writing.{shown-length, slot-hidden}
 use Rattle.snapshot.proofs.slot_size.Statement.{statement}
 use Rattle.snapshot.proofs.slot_size.Tie as tie
 
 returns : tie.Need-returns
 returns c =
     let a = c .before .before .before .args in
-    let words = now (a .table) in
-    let x = slotAt (slotsIn words) (a .slot) in
     let shown = sym (c .before .before .is-shown .ensures) ∙ c .before .if1 .taken in
-    let eight = used-registers words (a .slot) (taskAt (slotsIn words) (a .slot)) (shown-used (a .observer) x shown) in
-    let size = ap length (slot-shown (a .observer) x shown) ∙ task-length (a .observer) (taskAt (slotsIn words) (a .slot)) eight in
+    let size = shown-length (now (a .table)) (a .slot) (a .observer) shown in
     (ap (λ (n : ℕ). 39 + n) (c .mailbox-size .ensures .0) ∙ sym size, omega arith)
 
 returns-2 : tie.Need-returns-2

@@ -32,7 +32,9 @@ returns-2 c =
     let size = snapshot-length words image (a .turn) (a .observer) in
     let program = b .before .program .ensures in
     let head = rw program at (c .before .before .before .before .before .before .write-head .ensures) in
-    let whole = lent (headBytes (programOf image) (a .turn)) (encodeItems (shownSlot (a .observer)) (slotsIn words)) (now (a .out)) _ (head-length (programOf image) (a .turn) ∙ ap (λ (l : List ℕ). 3 + length l + 1) (sym program)) head (c .before .before .write-slots .ensures) in
+    let long = head-length (programOf image) (a .turn) ∙ ap (λ (l : List ℕ). 3 + length l + 1) (sym program) in
+    let slots = encodeItems (shownSlot (a .observer)) (slotsIn words) in
+    let whole = lent (headBytes (programOf image) (a .turn)) slots (now (a .out)) _ long head (c .before .before .write-slots .ensures) in
     let room : length bytes ≤ length (now (a .out)) = omega (arith, size, ap length program, b .slots-size .ensures .0) in
     (omega (arith, size, ap length program, b .slots-size .ensures .0), whole ∙ rw (← snapshot-parts words image (a .turn) (a .observer)) (sym (written-fits bytes (now (a .out)) room)))
 

@@ -18,16 +18,17 @@ abbrev μ-loop : tie.MeasureT-loop
 
 write-message-requires : tie.Need-write-message-requires Inv-loop μ-loop
 write-message-requires c κs =
-    let a = c .before .before .before .before .before .args in
-    let h = c .before .before .loop in
-    item-part (shownMessage (a .observer)) (taskAt (slotsIn (now (a .table))) (a .slot) .mailbox) (now (a .out)) (c .before .before .before .before .before .pre) noMessage (omega arith) (h .inv .2)
+    let s = c .before .before .before .before .before in
+    let ms = taskAt (slotsIn (now (s .args .table))) (s .args .slot) .mailbox in
+    item-part (shownMessage (s .args .observer)) ms (now (s .args .out)) (s .pre) noMessage (omega arith) (c .before .before .loop .inv .2)
 
 loop-again : tie.Need-loop-again Inv-loop μ-loop
 loop-again c =
-    let a = c .before .before .before .before .before .before .before .before .args in
+    let s = c .before .before .before .before .before .before .before .before in
     let h = c .before .before .before .before .before .loop in
+    let ms = taskAt (slotsIn (now (s .args .table))) (s .args .slot) .mailbox in
     let wrote = c .before .before .write-message in
-    let more = items-more (shownMessage (a .observer)) (taskAt (slotsIn (now (a .table))) (a .slot) .mailbox) (now (a .out)) (c .before .before .before .before .before .before .before .before .pre) noMessage (omega arith) (h .inv .2) (wrote .ensures .2) in
+    let more = items-more (shownMessage (s .args .observer)) ms (now (s .args .out)) (s .pre) noMessage (omega arith) (h .inv .2) (wrote .ensures .2) in
     (omega arith, omega arith, rw (← wrote .ensures .0) at more)
 
 returns : tie.Need-returns Inv-loop μ-loop

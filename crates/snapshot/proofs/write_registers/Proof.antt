@@ -1,16 +1,14 @@
 -- `snapshot::write_registers` meets its contract: the first a registers are written.
-use Prim.Native.Nat.{ℕ, _+_, _-_, _*_, _≤_}
+use Prim.Native.Nat.{_+_, _-_, _*_, _≤_}
 use mathlib.Core.Path.{_≡_, _∙_}
-use mathlib.Core.List.{List}
 use native.Mathlib.Omega.{arith}
 use denote.Ref.{now}
 use lib.ListN.{length, take, drop}
 use Rattle.wire.specs.Numbers.{encodeNumber}
 use Rattle.wire.specs.Items.{encodeItems}
 use Rattle.machine.specs.State.{register}
-use Rattle.wire.proofs.Numbers.{length-encode}
-use Rattle.wire.proofs.Items.{length-items}
 use Rattle.wire.proofs.Output.{written-fits, ItemsWritten, items-none, item-part, items-more, items-all}
+use Rattle.image.proofs.Records.{length-registers}
 use Rattle.table.specs.Table.{slotsIn}
 use Rattle.table.specs.Change.{taskAt}
 use Rattle.snapshot.proofs.write_registers.Statement.{statement}
@@ -22,9 +20,6 @@ Inv-loop out₀ table slot a₀ out a = (a ≤ 8) × ItemsWritten (encodeNumber 
 abbrev μ-loop : tie.MeasureT-loop
 μ-loop out₀ table slot a₀ out a = 8 - a
 
-registers-room : (xs out : List ℕ) → length xs ≡ 8 → 32 ≤ length out → length (encodeItems (encodeNumber 4) xs) ≤ length out
-registers-room xs out e h = omega (arith, length-items (encodeNumber 4) 4 (length-encode 4) xs)
-
 loop-again : tie.Need-loop-again Inv-loop μ-loop
 loop-again c =
     let s = c .before .before .before .before .before .before .before .before in
@@ -32,7 +27,7 @@ loop-again c =
     let h = c .before .before .before .before .before .before .loop in
     let x = c .before .before .before .register in
     let xs = taskAt (slotsIn (now (a .table))) (a .slot) .registers in
-    let room = registers-room xs (now (a .out)) (s .pre .1) (s .pre .0) in
+    let room : length (encodeItems (encodeNumber 4) xs) ≤ length (now (a .out)) = omega (arith, length-registers xs, s .pre) in
     let wrote = rw (x .ensures) at (c .before .before .encode-u32 .ensures) in
     let part = take (length (h .out) - 4 * h .a) (drop (4 * h .a) (h .out)) in
     let fits = written-fits (encodeNumber 4 (register (taskAt (slotsIn (now (a .table))) (a .slot)) (h .a))) part (item-part (encodeNumber 4) xs (now (a .out)) room 0 (omega arith) (h .inv .1)) in

@@ -8,9 +8,7 @@ use lib.ListN.{length}
 use Rattle.wire.proofs.Output.{written-fits}
 use Rattle.machine.specs.State.{slotAt}
 use Rattle.table.specs.Table.{slotsIn}
-use Rattle.table.specs.Change.{taskAt}
-use Rattle.table.proofs.Slots.{used-registers}
-use Rattle.snapshot.proofs.Writing.{task-length, shown-used, slot-shown, slot-hidden}
+use Rattle.snapshot.proofs.Writing.{slot-shown, shown-registers, shown-length, slot-hidden}
 use Rattle.snapshot.proofs.write_slot.Statement.{statement}
 use Rattle.snapshot.proofs.write_slot.Tie as tie
 
@@ -18,11 +16,8 @@ write-task-requires : tie.Need-write-task-requires
 write-task-requires c κs =
     let s = c .before .before .before .before in
     let words = now (s .args .table) in
-    let x = slotAt (slotsIn words) (s .args .slot) in
-    let t = taskAt (slotsIn words) (s .args .slot) in
     let shown = sym (c .before .before .is-shown .ensures) ∙ c .before .if1 .taken in
-    let eight = used-registers words (s .args .slot) t (shown-used (s .args .observer) x shown) in
-    (eight, rw (slot-shown (s .args .observer) x shown, task-length (s .args .observer) t eight) at (s .pre))
+    (shown-registers words (s .args .slot) (s .args .observer) shown, rw (shown-length words (s .args .slot) (s .args .observer) shown) at (s .pre))
 
 returns : tie.Need-returns
 returns c =

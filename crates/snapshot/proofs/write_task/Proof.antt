@@ -7,9 +7,8 @@ use denote.Ref.{now}
 use lib.ListN.{length}
 use Rattle.wire.specs.Numbers.{encodeNumber}
 use Rattle.wire.specs.Items.{encodeItems}
-use Rattle.wire.proofs.Numbers.{length-encode}
-use Rattle.wire.proofs.Items.{length-items}
 use Rattle.wire.proofs.Output.{lent}
+use Rattle.image.proofs.Records.{length-registers}
 use Rattle.table.specs.Table.{slotsIn}
 use Rattle.table.specs.Change.{taskAt}
 use Rattle.snapshot.specs.Writing.{shownMessage}
@@ -26,10 +25,11 @@ returns c =
     let mailbox = encodeItems (shownMessage (s .args .observer)) (t .mailbox) in
     let registers = encodeItems (encodeNumber 4) (t .registers) in
     let fields = encodeNumber 2 (37 + length mailbox) ++ t .kind ∷ t .label ∷ t .spare ∷ encodeNumber 2 (t .pc) in
-    let size = f .before .before .before .before .before .before .mailbox-size .ensures .0 in
-    let first = rw (size, f .before .before .before .before .before .kind .ensures, f .before .before .before .before .label .ensures, f .before .before .before .spare .ensures, f .before .before .pc .ensures) at (f .write-fields .ensures) in
+    let p = f .before .before in
+    let size = p .before .before .before .before .mailbox-size .ensures .0 in
+    let first = rw (size, p .before .before .before .kind .ensures, p .before .before .label .ensures, p .before .spare .ensures, p .pc .ensures) at (f .write-fields .ensures) in
     let second = lent fields registers out 7 refl first (c .before .before .before .before .before .before .write-registers .ensures) in
-    let long : length (fields ++ registers) ≡ 39 = omega (arith, length-items (encodeNumber 4) 4 (length-encode 4) (t .registers), s .pre .0) in
+    let long : length (fields ++ registers) ≡ 39 = omega (arith, length-registers (t .registers), s .pre .0) in
     let third = lent (fields ++ registers) mailbox out 39 long second (c .before .before .write-mailbox .ensures) in
     (ap (λ (n : ℕ). 39 + n) size ∙ sym (task-length (s .args .observer) t (s .pre .0)), omega arith, rw (task-shown (s .args .observer) t (s .pre .0)) third)
 

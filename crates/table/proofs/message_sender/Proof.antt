@@ -4,24 +4,20 @@ use borrow.Author.Needs.{needs}
 use mathlib.Core.Path.{sym, ap}
 use native.Mathlib.Omega.{arith}
 use denote.Ref.{now}
-use lib.ListN.{List·getD-eq-default}
 use Rattle.machine.specs.State.{Message}
-use Rattle.table.specs.Table.{window, slotsIn}
-use Rattle.table.specs.Change.{noMessage, taskAt}
-use Rattle.table.proofs.Message.{message-words}
-use Rattle.table.proofs.Slots.{message-read}
+use Rattle.table.proofs.Slots.{message-read, message-past}
 use Rattle.table.proofs.message_sender.Statement.{statement}
 use Rattle.table.proofs.message_sender.Tie as tie
 
 returns : tie.Need-returns
 returns c =
     let a = c .before .before .before .args in
-    rw (message-read (now (a .t)) (a .s) (c .word .ensures .0) (a .i) (omega arith), message-words (window (now (a .t)) (a .s)) (a .i)) (ap (λ (x : ℕ). x % 256) (c .word .ensures .1))
+    rw (message-read (now (a .t)) (a .s) (c .word .ensures .0) (a .i) (omega arith)) (ap (λ (x : ℕ). x % 256) (c .word .ensures .1))
 
 returns-2 : tie.Need-returns-2
 returns-2 c =
     let a = c .before .before .args in
-    ap (λ (m : Message). m .sender) (sym (List·getD-eq-default (taskAt (slotsIn (now (a .t))) (a .s) .mailbox) noMessage (omega arith)))
+    ap (λ (m : Message). m .sender) (sym (message-past (now (a .t)) (a .s) (a .i) (omega arith)))
 
 pub message-sender-spec : {M : Type 1} → statement M
 message-sender-spec = tie.close (tie.spec (λ c κs. tt) (λ c. search needs) (λ c κs. omega arith) (λ c. search needs) returns returns-2)

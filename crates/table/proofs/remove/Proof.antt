@@ -4,10 +4,11 @@ use mathlib.Core.Path.{_≡_, sym}
 use native.Mathlib.Omega.{arith}
 use denote.Ref.{now}
 use Rattle.wire.specs.Lists.{without}
+use Rattle.wire.proofs.Lists.{without-past}
 use Rattle.table.specs.Table.{slotsIn}
 use Rattle.table.specs.Change.{taskAt}
 use Rattle.table.proofs.Slots.{mailbox-slot}
-use Rattle.table.proofs.Mailbox.{without-past, mailbox-kept}
+use Rattle.table.proofs.Mailbox.{mailbox-kept}
 use Rattle.table.proofs.Stores.{remove-stores}
 use Rattle.table.proofs.remove.Statement.{statement}
 use Rattle.table.proofs.remove.Tie as tie
