@@ -20,7 +20,8 @@ use Rattle.machine.specs.Valid.{isProgramLength, isTurnSlot, sparesUnused, Vali
 use Rattle.machine.proofs.Rules.{size-facts}
 use Rattle.image.specs.Refusal.{_then_, unless, short}
 use Rattle.image.specs.Record.{recordBytes}
-use Rattle.image.specs.Image.{programLength, turnSlotAt, slotsAt, programOf, turnSlotOf, slotsPart, versionNumber, programNumber, turnSlotNumber, recordLength, span, skip, slotsOf, slotsNumber, tailNumber, spareNumber, imageNumber, stateOf, recordStart, recordPart, slotsBytes, imageBytes}
+use Rattle.image.specs.Image.{programLength, turnSlotAt, slotsAt, programOf, turnSlotOf, slotsPart, versionNumber, programNumber, turnSlotNumber, recordLength, span}
+use Rattle.image.specs.Image.{skip, slotsOf, slotsNumber, tailNumber, spareNumber, imageNumber, stateOf, recordStart, recordPart, slotsBytes, imageBytes}
 use Rattle.image.proofs.Refusal.{then-left, then-right, then-assoc, then-holds, Listed, listed-unless, listed-short, unless-none, short-none}
 use Rattle.image.proofs.Slots.{slots-back, slots-valid, slots-length, slots-listed, length-slotsOf, slot-at, skip-drop, record-at, slots-number, slots-forth, slots-end, slots-bytes}
 

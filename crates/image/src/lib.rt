@@ -4,7 +4,9 @@ ghost use mathlib.Core.Path.{_≡_};
 ghost use Rattle.machine.specs.Valid.{isProgramLength, mailInRange, fieldsInRange, sparesUnused};
 ghost use Rattle.image.specs.Refusal.{_then_, unless};
 ghost use Rattle.image.specs.Record.{taskOf, slotOf, recordNumber};
-ghost use Rattle.image.specs.Image.{programLength, programOf, turnSlotOf, slotsPart, versionNumber, programNumber, turnSlotNumber, recordLength, recordOf, behind, skip, slotsOf, isRecordLength, slotNumber, slotsNumber, tailNumber, spareNumber, imageNumber, recordPart};
+ghost use Rattle.image.specs.Image.{programLength, programOf, turnSlotOf, slotsPart, versionNumber, programNumber, turnSlotNumber};
+ghost use Rattle.image.specs.Image.{recordLength, recordOf, behind, skip, slotsOf, isRecordLength, slotNumber, slotsNumber};
+ghost use Rattle.image.specs.Image.{tailNumber, spareNumber, imageNumber, recordPart};
 
 // ---- the layout: where the fields begin, in an image and in a record, and the size of a message
 

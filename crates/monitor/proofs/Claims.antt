@@ -16,7 +16,8 @@ use Rattle.image.specs.Image.{stateOf, imageBytes}
 use Rattle.image.proofs.Refusal.{unless-holds}
 use Rattle.image.proofs.Image.{accepted-length, image-listed, image-forth, record-part, record-above, record-refused, record-inside}
 use Rattle.monitor.specs.Calls.{rewriteCall, turnsCall, viewCall}
-use Rattle.monitor.specs.Claims.{NumbersAreListed, FirstMetIsGiven, LimitsAreRefused, CallsAreAcceptedExactly, OthersAreAccepted, CallsWriteTheirAnswer, RecordIsItsPart, ImageLengths, ReadThenWrite, WriteThenRead, ViewIsAccepted, ViewFor15, Secrecy, EqualViewsAreEqualBytes}
+use Rattle.monitor.specs.Claims.{NumbersAreListed, FirstMetIsGiven, LimitsAreRefused, CallsAreAcceptedExactly, OthersAreAccepted, CallsWriteTheirAnswer, RecordIsItsPart}
+use Rattle.monitor.specs.Claims.{ImageLengths, ReadThenWrite, WriteThenRead, ViewIsAccepted, ViewFor15, Secrecy, EqualViewsAreEqualBytes}
 use Rattle.monitor.proofs.Calls.{first-met, accepted-exactly, output-accepted, writes-its-answer, number-holds}
 use Rattle.monitor.proofs.Secrecy as Secrecy
 use Rattle.monitor.proofs.Secrecy.{read-valid, rewritten, written-accepted, equal-bytes, equal-views}

@@ -48,7 +48,8 @@ fn told(size: usize, room: usize, busy: u64) -> Answer
 
 // Writes an image again as it was read.
 pub fn rewrite(image: &[u8], out: &mut [u8]) -> Answer
-    ensures { λ r. ⌜ (r ≡ rewriteAnswer (now (image .entry)) (now (out .entry))) × (now (out .exit) ≡ rewriteOutput (now (image .entry)) (now (out .entry))) ⌝ }
+    ensures { λ r. ⌜ (r ≡ rewriteAnswer (now (image .entry)) (now (out .entry)))
+        × (now (out .exit) ≡ rewriteOutput (now (image .entry)) (now (out .entry))) ⌝ }
 {
     let mut table: [u32; 3328] = [0; 3328];
     let number = snapshot::load(&mut table, image);
