@@ -75,7 +75,7 @@ module _ (s : ℕ) (h : s < 16) where
         other = r .other;
       }
 
--- ---- the messages behind message i, n of them, move up by one
+-- ---- the messages behind message i, n of them, move down by one
 
 module _ (i n : ℕ) (w : List ℕ) (long : length w ≡ 208) (fits : i + n < 64) where
   abbrev labels : List ℕ
