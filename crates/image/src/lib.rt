@@ -29,7 +29,7 @@ pub const MESSAGE_SIZE: usize = 6;
 // ---- the parts of an image
 
 // The length of the program, as its field says it.
-pub fn program_length(image: &[u8]) -> usize
+fn program_length(image: &[u8]) -> usize
     ensures { λ r. ⌜ (r ≡ programLength (now (image .entry))) × (r < 65536) ⌝ }
 {
     wire::decode_u16(wire::drop(image, 1))
@@ -57,7 +57,7 @@ pub fn slots_part(image: &[u8]) -> &[u8]
 }
 
 // The length of the record at the front of b, as its field says it.
-pub fn record_length(b: &[u8]) -> usize
+fn record_length(b: &[u8]) -> usize
     ensures { λ r. ⌜ (r ≡ recordLength (now (b .entry))) × (r < 65536) ⌝ }
 {
     wire::decode_u16(b)
@@ -71,7 +71,7 @@ pub fn front_record(b: &[u8]) -> &[u8]
 }
 
 // The bytes behind the slot at the front of b.
-fn behind(b: &[u8]) -> &[u8]
+pub fn behind(b: &[u8]) -> &[u8]
     ensures { λ r. ⌜ now r ≡ behind (now (b .entry)) ⌝ }
 {
     wire::drop(b, 2 + record_length(b))

@@ -1,12 +1,12 @@
 -- The steps of loading make the task of each record and the slots of the image, and an accepted image can be loaded.
 use Prim.Native.Nat.{ℕ, zero, suc, _+_, _*_, _/_, _≤_, _<_}
-use mathlib.Core.Path.{_≡_, refl, sym, ap, ap₂, _∙_}
+use mathlib.Core.Path.{_≡_, refl, sym, ap, _∙_}
 use mathlib.Core.List.{List, [], _∷_, _++_, append-nil}
 use native.Mathlib.Numerals.{add-one}
 use native.Mathlib.Omega.{arith}
 use borrow.Author.Tests.{ne-eqb}
 use lib.ListN.{length, getD, take, drop, set, length-append}
-use lib.Seq.{take-all, drop-cons, drop-drop, set-at, append-snoc}
+use lib.Seq.{take-all, drop-cons, set-at, append-snoc}
 use Rattle.wire.specs.Lists.{Bytes}
 use Rattle.wire.specs.Numbers.{decodeNumber}
 use Rattle.wire.proofs.Output.{copy-next}
@@ -18,9 +18,8 @@ use Rattle.wire.specs.Items.{decodeItems}
 use Rattle.wire.proofs.Items.{length-decode, decode-more}
 use Rattle.machine.specs.State.{Message, Task, Slot, unused, used, slotAt, withRegister, withRegisters, withMailbox}
 use Rattle.image.specs.Record.{messageOf, taskOf, slotOf}
-use Rattle.image.specs.Image.{recordLength, recordOf, skip, slotsOf, slotsPart, programOf, imageNumber, stateOf}
+use Rattle.image.specs.Image.{recordOf, skip, slotsOf, slotsPart, programOf, imageNumber, stateOf}
 use Rattle.image.proofs.Slots.{length-slotsOf, slot-at}
-use Rattle.image.proofs.Walk.{skip-next}
 use Rattle.image.proofs.Image.{accepted-valid}
 use Rattle.image.proofs.Records.{slot-some}
 use Rattle.table.specs.Table.{held}
@@ -95,11 +94,6 @@ module _ (r : List ℕ) (ok : Loadable r) where
       rw (h, change-set s (registersSet 8 (drop 5 r)) ss (used new), change-set s addMessages ss (used (registersSet 8 (drop 5 r) new)), task-is)
 
 -- ---- the slots
-
--- the bytes behind one slot more
-pub drop-next : (b : List ℕ) (at k r : ℕ) → drop at b ≡ skip k b → r ≡ recordLength (skip k b) → drop (at + (2 + r)) b ≡ skip (k + 1) b
-drop-next b at k r e f =
-    sym (drop-drop (2 + r) at b) ∙ ap₂ (λ (n : ℕ) (c : List ℕ). drop (2 + n) c) f e ∙ sym (skip-next k b)
 
 -- slot k stored behind the slots before it
 pub load-next : (b : List ℕ) (ys : List Slot) (k : ℕ) (r : List ℕ) (ss : List Slot) → k < 16 → length ys ≡ 16

@@ -84,12 +84,12 @@ fn load_slots(table: &mut [u32; 3328], slots: &[u8])
     requires { ⌜ LoadableSlots (now slots) ⌝ }
     ensures { λ _. ⌜ slotsIn (now (table .exit)) ≡ slotsOf 16 (now (slots .entry)) ⌝ }
 {
-    let mut at: usize = 0;
+    let mut rest = slots;
     let mut slot: usize = 0;
     while slot < 16 {
-        let rest = wire::drop(slots, at);
         load_slot(table, slot, image::front_record(rest));
-        at += 2 + image::record_length(rest);
+        let next = image::behind(rest);
+        rest = next;
         slot += 1;
     }
 }
