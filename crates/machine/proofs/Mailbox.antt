@@ -82,3 +82,10 @@ below-four (suc n) ms h ok = omega (arith, below-four n ms (omega arith) ok, ok 
 -- a mailbox that keeps the limit of each label holds at most 64 messages
 pub mailbox-64 : (ms : List Message) → MailboxFacts ms → length ms ≤ 64
 mailbox-64 ms ok = omega (arith, below-all ms (ok .each), below-four 16 ms (omega arith) ok)
+
+-- so one that has room for a message of a label holds fewer
+pub mailbox-room : (ms : List Message) → MailboxFacts ms → (l : ℕ) → l ≤ 15 → hasRoom l ms ≡ true → length ms < 64
+mailbox-room ms ok l h room =
+    let m : Message = record { label = l; sender = 0; value = 0 } in
+    let one : length (ms ++ (m ∷ [])) ≤ 64 = mailbox-64 (ms ++ (m ∷ [])) (mailbox-append ms ok m (record { label = h; sender = omega arith; value = omega arith }) room) in
+    omega (arith, rw length-append at one)

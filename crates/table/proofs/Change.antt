@@ -1,13 +1,14 @@
 -- Laws of the list of slots and of the changes of one slot in it, for callers.
 use Prim.Native.Nat.{ℕ, zero, suc}
-use mathlib.Core.Path.{_≡_, refl, ap, _∙_}
+use mathlib.Core.Path.{_≡_, refl, sym, ap, _∙_}
 use mathlib.Core.List.{List, [], _∷_}
 use lib.ListN.{length, set}
 use lib.Seq.{set-getD}
+use Rattle.wire.proofs.Lists.{getD-set-at}
 use Rattle.wire.proofs.Tabulate.{length-tabulate}
 use Rattle.machine.specs.State.{Task, Slot, unused, used, slotAt}
 use Rattle.table.specs.Table.{window, taskIn, held, slotsIn}
-use Rattle.table.specs.Change.{changeSlot, change}
+use Rattle.table.specs.Change.{taskOr, taskAt, changeSlot, change}
 
 pub length-slots : (t : List ℕ) → length (slotsIn t) ≡ 16
 unfolding slotsIn
@@ -42,3 +43,17 @@ change-change s f g ss = change-set s g ss (changeSlot f (slotAt ss s)) ∙ ap (
     both : (x : Slot) → changeSlot g (changeSlot f x) ≡ changeSlot (λ t. g (f t)) x
     both unused = refl
     both (used t) = refl
+
+-- two changes that agree on the task that is read in the slot
+pub change-at : (ss : List Slot) (s : ℕ) (f g : Task → Task) → f (taskAt ss s) ≡ g (taskAt ss s) → change s f ss ≡ change s g ss
+change-at ss s f g h = change-same ss s f g (λ t e. rw e at h)
+
+-- what a change leaves as it is in its task, it leaves in every slot
+pub change-keeps : {A : Type 0} (p : Task → A) (f : Task → Task) → ((t : Task) → p (f t) ≡ p t) → (s : ℕ) (ss : List Slot) (j : ℕ)
+    → p (taskAt (change s f ss) j) ≡ p (taskAt ss j)
+change-keeps p f same s ss j =
+    getD-set-at (λ (x : Slot). p (taskOr x) ≡ p (taskAt ss j)) ss s j (changeSlot f (slotAt ss s)) unused (λ e. kept (slotAt ss s) ∙ ap (λ (i : ℕ). p (taskAt ss i)) (sym e)) refl
+  where
+    kept : (x : Slot) → p (taskOr (changeSlot f x)) ≡ p (taskOr x)
+    kept unused = refl
+    kept (used t) = same t

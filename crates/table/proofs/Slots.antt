@@ -1,23 +1,23 @@
 -- Laws of the sixteen slots that the table's words mean.
-use Prim.Native.Nat.{ℕ, _+_, _%_, _<_, _≤_, min}
+use Prim.Native.Nat.{ℕ, _+_, _*_, _%_, _<_, _≤_, min}
 use mathlib.Core.Path.{_≡_, refl, sym, ap, _∙_}
 use mathlib.Core.Logic.{_≢_, dite}
-use mathlib.Core.List.{List}
+use mathlib.Core.List.{List, map}
 use native.Mathlib.Decide.{decLt}
 use native.Mathlib.Omega.{arith}
 use borrow.Author.Tests.{eqb-false}
 use lib.Dec.{eqb}
-use lib.ListN.{length, getD, drop, set, length-take, List·getD-eq-default}
-use lib.Seq.{getD-take, set-out}
+use lib.ListN.{length, getD, take, drop, set, length-take, length-drop, List·getD-eq-default}
+use lib.Seq.{getD-take, getD-drop, set-out}
 use Rattle.wire.specs.Lists.{tabulate}
-use Rattle.wire.proofs.Lists.{split}
+use Rattle.wire.proofs.Lists.{split, map-alike}
 use Rattle.wire.proofs.Tabulate.{length-tabulate, getD-tabulate, tabulate-same, tabulate-set}
 use Rattle.machine.specs.State.{Task, Slot, unused, used, slotAt}
 use Rattle.table.specs.Table.{window, messageIn, messagesIn, taskIn, held, slotsIn}
 use Rattle.table.specs.Change.{noMessage, noTask, taskOr, taskAt, messageAt, changeSlot, change}
 use Rattle.table.specs.Words.{fieldWord, SlotStored}
 use Rattle.table.proofs.Change.{length-slots}
-use Rattle.table.proofs.Window.{window-length, window-past}
+use Rattle.table.proofs.Window.{window-length, window-past, word-at}
 use Rattle.table.proofs.Message.{message-words}
 
 slot-past : (t : List ℕ) (s : ℕ) → 16 ≤ s → slotAt (slotsIn t) s ≡ unused
@@ -120,6 +120,17 @@ module _ (t : List ℕ) (s : ℕ) (full : length t ≡ 3328) where
       (λ z. rw z (λ h. absurd (omega arith)))
       (λ z. rw (z, length-take, length-tabulate)
       (λ h. getD-take (getD w 12 0) (tabulate 64 (messageIn w)) i noMessage (omega arith) ∙ getD-tabulate 64 (messageIn w) i noMessage (omega arith) ∙ message-words w i)))
+
+  -- the labels of the n messages, by their words
+  pub labels-read : s < 16 → (n : ℕ) → n ≡ length (taskAt (slotsIn t) s .mailbox) → n ≤ 64
+      → map (λ x. x % 256) (take n (drop (min s 16 * 208 + 16) t)) ≡ map (λ m. m .label) (taskAt (slotsIn t) s .mailbox)
+  labels-read l n count room =
+      let at = min s 16 * 208 + 16 in
+      let all : length (take n (drop at t)) ≡ n = simp (length-take, length-drop) (omega arith) in
+      map-alike (λ x. x % 256) (λ m. m .label) 0 noMessage (take n (drop at t)) (taskAt (slotsIn t) s .mailbox) (all ∙ count)
+      (λ i h.
+      let word : at + i ≡ min s 16 * 208 + (16 + i) = omega arith in
+      rw (getD-take n (drop at t) i 0 (omega arith), getD-drop at t i 0, word, word-at t s full (16 + i) (omega arith), message-read i (omega arith)))
 
 -- and past the last
 pub message-past : (t : List ℕ) (s i : ℕ) → length (taskAt (slotsIn t) s .mailbox) ≤ i → messageAt (slotsIn t) s i ≡ noMessage

@@ -1,9 +1,14 @@
 // The working storage of a call: sixteen slots of 208 words each, lent to the call and touched by slot and field only.
 // What is not there, a slot above 15, a field of an unused slot or a message past the last, reads as 0 and stays so.
-ghost use Prim.Native.Nat.{_+_, _<_, _≤_, _*_, min};
+ghost use Prim.Native.Nat.{_+_, _<_, _≤_, _*_, _%_, min};
 ghost use mathlib.Core.Path.{_≡_};
-ghost use lib.ListN.{length, getD, set};
+ghost use mathlib.Core.List.{map};
+ghost use lib.Dec.{eqb};
+ghost use lib.ListN.{length, getD, set, take, drop};
+ghost use Rattle.wire.specs.Lists.{firstIndex};
+ghost use Rattle.label.specs.Label.{flows};
 ghost use Rattle.machine.specs.State.{unused, slotAt, register, withLabel, withSpare, withPc, withRegister};
+ghost use Rattle.machine.specs.Turn.{ofLabel};
 ghost use Rattle.table.specs.Table.{window, slotsIn, held};
 ghost use Rattle.table.specs.Words.{fieldWord, SlotStored, storeMessage, shifted, cleared};
 ghost use Rattle.table.specs.Change.{taskAt, messageAt, change, slotWithKind, withMessage, withoutMessage, newTask};
@@ -49,6 +54,14 @@ fn store(t: &mut [u32], at: usize, x: u32)
     if at < t.len() {
         t[at] = x;
     }
+}
+
+// The n words from index at on.
+fn part(t: &[u32], at: usize, n: usize) -> &[u32]
+    requires { ⌜ at + n ≤ length (now t) ⌝ }
+    ensures { λ r. ⌜ now r ≡ take n (drop at (now (t .entry))) ⌝ }
+{
+    &t[at..at + n]
 }
 
 // The first word of slot s; the table's end where there is no slot s.
@@ -166,6 +179,54 @@ pub fn message_value(t: &[u32; 3328], s: usize, i: usize) -> u32
     } else {
         0
     }
+}
+
+// The words of the labels of the messages in slot s, the oldest first.
+fn labels(t: &[u32; 3328], s: usize) -> &[u32]
+    ensures { λ r. ⌜ map (λ x. x % 256) (now r) ≡ map (λ m. m .label) (taskAt (slotsIn (now (t .entry))) s .mailbox) ⌝ }
+{
+    let n = mailbox_length(t, s);
+    if n > 0 {
+        part(t, start(s) + LABELS, n)
+    } else {
+        part(t, 0, 0)
+    }
+}
+
+// The index of the oldest message in slot s whose label flows to `label`; how many messages there are where there is none.
+pub fn oldest(t: &[u32; 3328], s: usize, label: u8) -> usize
+    ensures { λ r. ⌜ r ≡ firstIndex (λ m. flows (m .label) label) (taskAt (slotsIn (now (t .entry))) s .mailbox) ⌝ }
+{
+    let words = labels(t, s);
+    let mut i = 0;
+    while i < words.len() {
+        if label::flows((words[i] % 256) as u8, label) {
+            return i;
+        }
+        i += 1;
+    }
+    i
+}
+
+// Whether the low byte of a word is the label.
+fn is_label(word: u32, label: u8) -> bool
+    ensures { λ r. ⌜ r ≡ eqb (word % 256) label ⌝ }
+{
+    word % 256 == label as u32
+}
+
+// How many messages of a label are in the mailbox of the task in slot s.
+pub fn count_label(t: &[u32; 3328], s: usize, label: u8) -> usize
+    ensures { λ r. ⌜ r ≡ length (ofLabel label (taskAt (slotsIn (now (t .entry))) s .mailbox)) ⌝ }
+{
+    let words = labels(t, s);
+    let mut n = 0;
+    let mut i = 0;
+    while i < words.len() {
+        n += is_label(words[i], label) as usize;
+        i += 1;
+    }
+    n
 }
 
 // ---- changing a field

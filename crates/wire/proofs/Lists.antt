@@ -1,16 +1,16 @@
 -- Laws of lists: an element changed, a front or all but one element taken, tests and filters.
 use Prim.Native.Nat.{ℕ, zero, suc, _+_, _≤_, _<_}
-use mathlib.Core.Path.{_≡_, refl, sym, ap}
-use mathlib.Core.Bool.{Bool, true, false, _&&_}
+use mathlib.Core.Path.{_≡_, refl, sym, ap, _∙_}
+use mathlib.Core.Bool.{Bool, true, false, cond, _&&_}
 use mathlib.Core.List.{List, [], _∷_, _++_, map, head?, append-nil}
-use mathlib.Core.Option.{some}
+use mathlib.Core.Option.{none, some}
 use native.Mathlib.Decide.{decLe}
 use native.Mathlib.Nat.{not-suc-le-zero}
 use native.Mathlib.Numerals.{add-one}
 use native.Mathlib.Omega.{arith}
 use lib.ListN.{length, getD, set, take, drop, length-append, drop-of-length-le}
-use lib.Seq.{take-all, take-suc-set}
-use Rattle.wire.specs.Lists.{each, without, Every, all, keep, dropFirst, IsByte, Bytes}
+use lib.Seq.{take-all, drop-cons, take-suc-set}
+use Rattle.wire.specs.Lists.{each, without, Every, all, keep, dropFirst, firstIndex, IsByte, Bytes}
 
 -- ---- cases
 
@@ -76,6 +76,14 @@ module _ {A : Type 0} where
   pub map-absorb : {B : Type 0} (f : A → B) (g : A → A) → ((x : A) → f (g x) ≡ f x) → (l : List A) → map f (map g l) ≡ map f l
   map-absorb f g h [] = refl
   map-absorb f g h (x ∷ xs) = rw (h x, map-absorb f g h xs)
+
+  -- two lists of which f and g make the same, element by element
+  pub map-alike : {B C : Type 0} (f : A → C) (g : B → C) (d : A) (e : B) (xs : List A) (ys : List B) → length xs ≡ length ys
+      → ((i : ℕ) → i < length xs → f (getD xs i d) ≡ g (getD ys i e)) → map f xs ≡ map g ys
+  map-alike f g d e [] [] n h = refl
+  map-alike f g d e [] (y ∷ ys) n h = absurd (omega arith)
+  map-alike f g d e (x ∷ xs) [] n h = absurd (omega arith)
+  map-alike f g d e (x ∷ xs) (y ∷ ys) n h = rw (h 0 (omega arith), map-alike f g d e xs ys (omega arith) (λ i l. h (suc i) (omega arith)))
 
   pub length-nil : (l : List A) → length l ≡ 0 → l ≡ []
   length-nil [] e = refl
@@ -203,3 +211,71 @@ module _ {A : Type 0} where
       dropFirst-keep (x ∷ xs) =
           let h = dropFirst-keep xs in
           split (p x) (λ e. rw (stronger x e, e)) (λ e. split (q x) (λ f. rw (f, e, f, h)) (λ f. rw (f, e, f, h)))
+
+-- ---- the first element that passes, by its index, and how many do
+
+module _ {A : Type 0} (p : A → Bool) where
+  pub first-none : (xs : List A) → length xs ≤ firstIndex p xs → head? (keep p xs) ≡ none
+  first-none [] = λ h. refl
+  first-none (x ∷ xs) =
+      let ih = first-none xs in
+      split (p x) (λ e. rw e (λ h. absurd (omega arith))) (λ e. rw e (λ h. ih (omega arith)))
+
+  pub first-some : (xs : List A) (d : A) → firstIndex p xs < length xs → head? (keep p xs) ≡ some (getD xs (firstIndex p xs) d)
+  first-some [] d = λ h. absurd (not-suc-le-zero h)
+  first-some (x ∷ xs) d =
+      let ih = first-some xs d in
+      split (p x) (λ e. rw e (λ h. refl)) (λ e. rw e (λ h. ih (omega arith)))
+
+  pub first-without : (xs : List A) → without (firstIndex p xs) xs ≡ dropFirst p xs
+  first-without [] = refl
+  first-without (x ∷ xs) = let ih = first-without xs in split (p x) (λ e. rw e) (λ e. rw (e, ih))
+
+  pub first-le : (xs : List A) → firstIndex p xs ≤ length xs
+  first-le [] = omega arith
+  first-le (x ∷ xs) = let ih = first-le xs in split (p x) (λ e. rw e (omega arith)) (λ e. rw e (omega arith))
+
+  -- a loop that goes up through the elements: p passes at the one at index i, or does not, or there is none
+  pub first-here : (xs : List A) (i : ℕ) (d : A) → i < length xs → p (getD xs i d) ≡ true → i ≤ firstIndex p xs → i ≡ firstIndex p xs
+  first-here [] i d h t = absurd (not-suc-le-zero h)
+  first-here (x ∷ xs) zero d h t = rw t (λ l. refl)
+  first-here (x ∷ xs) (suc i) d h t =
+      let ih = first-here xs i d (omega arith) t in
+      split (p x) (λ e. rw e (λ l. absurd (omega arith))) (λ e. rw e (λ l. ap suc (ih (omega arith))))
+
+  pub first-next : (xs : List A) (i : ℕ) (d : A) → i < length xs → p (getD xs i d) ≡ false → i ≤ firstIndex p xs → i + 1 ≤ firstIndex p xs
+  first-next [] i d h t = absurd (not-suc-le-zero h)
+  first-next (x ∷ xs) zero d h t = rw t (λ l. omega arith)
+  first-next (x ∷ xs) (suc i) d h t =
+      let ih = first-next xs i d (omega arith) t in
+      split (p x) (λ e. rw e (λ l. absurd (omega arith))) (λ e. rw e (λ l. omega (arith, ih (omega arith))))
+
+  pub first-past : (xs : List A) (i : ℕ) → length xs ≤ i → i ≤ firstIndex p xs → i ≡ firstIndex p xs
+  first-past xs i h l = omega (arith, first-le xs)
+
+  -- a loop that counts the elements that pass: the one at index i counted, and all of them
+  pub keep-next : (xs : List A) (i n : ℕ) (d : A) → i < length xs → length (keep p xs) ≡ n + length (keep p (drop i xs))
+      → length (keep p xs) ≡ n + cond (p (getD xs i d)) 1 0 + length (keep p (drop (i + 1) xs))
+  keep-next xs i n d h c =
+      let x = getD xs i d in
+      c ∙ rw (drop-cons xs i d h, add-one i) (split (p x) (λ e. rw e (omega arith)) (λ e. rw e (omega arith)))
+
+  pub keep-done : (xs : List A) (i n : ℕ) → length xs ≤ i → length (keep p xs) ≡ n + length (keep p (drop i xs)) → n ≡ length (keep p xs)
+  keep-done xs i n h c = let none : length (keep p (drop i xs)) ≡ 0 = rw (drop-of-length-le xs {i = i} h) in omega arith
+
+  -- of what f makes of the elements
+  pub first-map : {B : Type 0} (f : B → A) (xs : List B) → firstIndex p (map f xs) ≡ firstIndex (λ x. p (f x)) xs
+  first-map f [] = refl
+  first-map f (x ∷ xs) = rw (first-map f xs)
+
+  pub length-keep-map : {B : Type 0} (f : B → A) (xs : List B) → length (keep p (map f xs)) ≡ length (keep (λ x. p (f x)) xs)
+  length-keep-map f [] = refl
+  length-keep-map f (x ∷ xs) = let ih = length-keep-map f xs in split (p (f x)) (λ e. rw (e, ih)) (λ e. rw (e, ih))
+
+  -- of two lists that are alike to the test
+  module _ {B C : Type 0} (f : B → A) (g : C → A) (xs : List B) (ys : List C) (same : map f xs ≡ map g ys) where
+    pub first-alike : firstIndex (λ x. p (f x)) xs ≡ firstIndex (λ y. p (g y)) ys
+    first-alike = sym (first-map f xs) ∙ ap (firstIndex p) same ∙ first-map g ys
+
+    pub keep-alike : length (keep (λ x. p (f x)) xs) ≡ length (keep (λ y. p (g y)) ys)
+    keep-alike = sym (length-keep-map f xs) ∙ ap (λ (zs : List A). length (keep p zs)) same ∙ length-keep-map g ys

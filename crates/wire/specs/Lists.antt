@@ -39,6 +39,11 @@ module _ {A : Type 0} where
   dropFirst p [] = []
   dropFirst p (x ∷ xs) = cond (p x) xs (x ∷ dropFirst p xs)
 
+  -- the index of the first element at which p passes, the length where there is none
+  abbrev pub firstIndex : (A → Bool) → List A → ℕ
+  firstIndex p [] = 0
+  firstIndex p (x ∷ xs) = cond (p x) 0 (suc (firstIndex p xs))
+
 -- x is a byte, and every element of a list is
 abbrev pub IsByte : ℕ → Type 0
 IsByte x = x < 256

@@ -1,0 +1,4 @@
+-- The laws of the crate `turn`, a file each.
+pub mod Effects
+pub mod Steps
+pub mod Answer

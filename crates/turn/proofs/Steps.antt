@@ -1,0 +1,140 @@
+-- Laws of turns over the table: what a live task does with its turn, one turn, and one turn more.
+use Prim.Native.Nat.{ℕ, _+_, _*_, _%_, _<_, _≤_}
+use mathlib.Core.Logic.{_≢_}
+use mathlib.Core.Path.{_≡_, refl, sym, ap, _∙_}
+use mathlib.Core.Bool.{true, false, cond}
+use mathlib.Core.List.{List}
+use native.Mathlib.Numerals.{add-one}
+use native.Mathlib.Omega.{arith}
+use borrow.Author.Tests.{eq-eqb, ne-eqb}
+use lib.Dec.{eqb}
+use lib.ListN.{length, getD, set}
+use lib.Seq.{set-getD}
+use Rattle.label.specs.Label.{flows, join}
+use Rattle.instruction.specs.declared.Instruction.{Instruction}
+use Rattle.instruction.specs.declared.Decoded.the-variants.{Legal, Illegal}
+use Rattle.instruction.specs.Program.{count, instructionAt}
+use Rattle.instruction.proofs.Program.{at-within, at-below}
+use Rattle.machine.specs.State.{Slot, unused, used, State, slotAt, hasLiveTask}
+use Rattle.machine.specs.Effect.{outcome}
+use Rattle.machine.specs.Turn as Turn
+use Rattle.machine.specs.Turn.{applied, successor, current}
+use Rattle.machine.specs.Valid.{Valid}
+use Rattle.machine.specs.Machine.{turns, busy}
+use Rattle.machine.proofs.Rules.{TaskFacts, SlotFacts, size-facts, slot-facts}
+use Rattle.machine.proofs.Mailbox.{mailbox-room}
+use Rattle.table.specs.Change.{taskOr, taskAt, slotWithKind}
+use Rattle.turn.specs.Effects.{executed, RoomFor, Ready, WasDecoded}
+use Rattle.turn.proofs.Effects.{kind-here}
+
+-- a live task is there
+pub live-here : (ss : List Slot) (s : ℕ) → hasLiveTask (slotAt ss s) ≡ true → slotAt ss s ≡ used (taskAt ss s)
+live-here ss s = there (slotAt ss s)
+  where
+    there : (x : Slot) → hasLiveTask x ≡ true → x ≡ used (taskOr x)
+    there unused e = cc
+    there (used t) e = refl
+
+-- a task is live where its kind is 1
+pub live-kind : (ss : List Slot) (s : ℕ) → hasLiveTask (slotAt ss s) ≡ eqb (taskAt ss s .kind) 1
+live-kind ss s = by-kind (slotAt ss s)
+  where
+    by-kind : (x : Slot) → hasLiveTask x ≡ eqb (taskOr x .kind) 1
+    by-kind unused = refl
+    by-kind (used t) = refl
+
+module _ (program : List ℕ) (s : ℕ) (ss : List Slot) where
+  -- ---- what a live task does with its turn
+
+  module _ (here : slotAt ss s ≡ used (taskAt ss s)) where
+    -- with place N it gets kind 3
+    pub act-ends : taskAt ss s .pc ≡ count program → set ss s (slotWithKind 3 (slotAt ss s)) ≡ applied s (outcome flows join program s (taskAt ss s)) ss
+    unfolding outcome
+    act-ends e = kind-here ss s here 3 refl ∙ rw (eq-eqb (taskAt ss s .pc) (count program) e)
+
+    -- else it carries out one instruction
+    module _ (before : taskAt ss s .pc ≢ count program) where
+      pub act-executes : (i : Instruction) → instructionAt program (taskAt ss s .pc) ≡ Legal i → executed i s ss ≡ applied s (outcome flows join program s (taskAt ss s)) ss
+      unfolding outcome executed
+      act-executes i e = rw (ne-eqb (taskAt ss s .pc) (count program) before, e)
+
+      pub act-illegal : instructionAt program (taskAt ss s .pc) ≡ Illegal → ss ≡ applied s (outcome flows join program s (taskAt ss s)) ss
+      unfolding outcome
+      act-illegal e = sym (set-getD ss s unused) ∙ rw (ne-eqb (taskAt ss s .pc) (count program) before, e, here)
+
+  -- what was decoded at a place of the program
+  pub was-decoded : (pc : ℕ) (i : Instruction) → instructionAt program pc ≡ Legal i → WasDecoded i
+  was-decoded pc i e = record {
+    n = count program;
+    code = getD program (4 * pc) 0;
+    a = getD program (4 * pc + 1) 0;
+    b = getD program (4 * pc + 2) 0;
+    c = getD program (4 * pc + 3) 0;
+    legal = sym (at-within program pc (at-below program pc i e)) ∙ e;
+  }
+
+  module _ (ok : Valid (record { program = program; turnSlot = s; slots = ss })) where
+    -- a valid state is ready for the instruction of a task that has not come to place N
+    pub valid-ready : slotAt ss s ≡ used (taskAt ss s) → taskAt ss s .pc ≢ count program → Ready s ss
+    valid-ready here before =
+        let n = count program in
+        let own : TaskFacts n s (taskAt ss s) = rw here at (slot-facts n s (slotAt ss s) (ok .tasks s)) in
+        record {
+          here = here;
+          place = omega (arith, own .pc, size-facts (length program) (ok .size) .2);
+          mail = λ j. roomy j (slotAt ss j) (slot-facts n j (slotAt ss j) (ok .tasks j));
+        }
+      where
+        roomy : (j : ℕ) (x : Slot) → SlotFacts (count program) j x → (l : ℕ) → l ≤ 15 → RoomFor l (taskOr x .mailbox)
+        roomy j unused f l h room = omega arith
+        roomy j (used t) f l h room = mailbox-room (t .mailbox) (f .mailbox) l h room
+
+  -- ---- one turn
+
+  pub turn-live : hasLiveTask (slotAt ss s) ≡ true
+      → applied s (outcome flows join program s (taskAt ss s)) ss ≡ turns 1 (record { program = program; turnSlot = s; slots = ss }) .slots
+  unfolding Turn.turns Turn.turn
+  turn-live = live (slotAt ss s)
+    where
+      live : (x : Slot) → hasLiveTask x ≡ true → applied s (outcome flows join program s (taskOr x)) ss ≡ Turn.step flows join program s ss x
+      live unused e = cc
+      live (used t) e = rw e
+
+  pub turn-idle : hasLiveTask (slotAt ss s) ≡ false → ss ≡ turns 1 (record { program = program; turnSlot = s; slots = ss }) .slots
+  unfolding Turn.turns Turn.turn
+  turn-idle = idle (slotAt ss s)
+    where
+      idle : (x : Slot) → hasLiveTask x ≡ false → ss ≡ Turn.step flows join program s ss x
+      idle unused e = refl
+      idle (used t) e = rw e
+
+-- ---- one turn more
+
+module _ (start : State) where
+  pub turns-none : start ≡ turns 0 start
+  unfolding Turn.turns
+  turns-none = refl
+
+  pub busy-none : busy 0 start ≡ 0
+  unfolding Turn.busy
+  busy-none = refl
+
+  module _ (n : ℕ) where
+    turns-more : turns (n + 1) start ≡ Turn.turn flows join (turns n start)
+    unfolding Turn.turns
+    turns-more = rw add-one
+
+    busy-more : busy (n + 1) start ≡ busy n start + cond (hasLiveTask (current (turns n start))) 1 0
+    unfolding Turn.busy
+    busy-more = rw add-one
+
+    -- the state after n turns, by its program, turn slot and slots
+    module _ (program : List ℕ) (s : ℕ) (ss : List Slot) (now : record { program = program; turnSlot = s; slots = ss } ≡ turns n start) where
+      pub turns-next : (ss′ : List Slot) → ss′ ≡ turns 1 (record { program = program; turnSlot = s; slots = ss }) .slots
+          → record { program = program; turnSlot = (s + 1) % 16; slots = ss′ } ≡ turns (n + 1) start
+      unfolding Turn.turns Turn.turn
+      turns-next ss′ e =
+          ap (λ (rs : List Slot). record { program = program; turnSlot = (s + 1) % 16; slots = rs }) e ∙ ap (Turn.turn flows join) now ∙ sym turns-more
+
+      pub busy-next : busy (n + 1) start ≡ busy n start + cond (hasLiveTask (slotAt ss s)) 1 0
+      busy-next = busy-more ∙ ap (λ (state : State). busy n start + cond (hasLiveTask (current state)) 1 0) (sym now)

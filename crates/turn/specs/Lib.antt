@@ -1,0 +1,3 @@
+-- The definitions of the crate `turn`, a file each.
+pub mod Effects
+pub mod Answer

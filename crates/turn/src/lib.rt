@@ -1,0 +1,303 @@
+// Turns over the table: the effect of each instruction, the turn of a slot, and a run of turns.
+ghost use Prim.Native.Nat.{_≤_, _<_};
+ghost use mathlib.Core.Path.{_≡_};
+ghost use mathlib.Core.Bool.{true};
+ghost use mathlib.Core.List.{[], _∷_};
+ghost use lib.ListN.{set, replicate};
+ghost use Rattle.label.specs.Label.{flows, join};
+ghost use Rattle.instruction.specs.declared.Instruction.the-variants.{Copy, Add, Subtract, Zero, Raise, Send, Take, Poll, Sandbox, Identity};
+ghost use Rattle.machine.specs.State.{used, slotAt, hasLiveTask, withRegister, next};
+ghost use Rattle.machine.specs.Effect.{oldest, deliver, outcome};
+ghost use Rattle.machine.specs.Turn.{perform, applied};
+ghost use Rattle.machine.specs.Valid.{Valid};
+ghost use Rattle.machine.specs.Machine.{turns};
+ghost use Rattle.table.specs.Table.{slotsIn};
+ghost use Rattle.table.specs.Change.{taskAt, messageAt, change, withoutMessage};
+ghost use Rattle.turn.specs.Effects.{executed, RoomFor, Ready, WasDecoded, isGiven};
+ghost use Rattle.turn.specs.Answer.{stateWith, turnsTold, runAnswer, slotsAfter};
+use instruction::Decoded;
+use instruction::Instruction;
+
+// ---- registers and place
+
+// The place goes up by 1.
+fn advance(table: &mut [u32; 3328], slot: u8)
+    requires { ⌜ taskAt (slotsIn (now table)) slot .pc < 256 ⌝ }
+    ensures { λ _. ⌜ slotsIn (now (table .exit)) ≡ change slot next (slotsIn (now (table .entry))) ⌝ }
+{
+    let pc = table::pc(table, slot as usize);
+    table::set_pc(table, slot as usize, pc + 1);
+}
+
+// Register a gets x, and the place goes up.
+fn gets(table: &mut [u32; 3328], slot: u8, a: u8, x: u32)
+    requires { ⌜ taskAt (slotsIn (now table)) slot .pc < 256 ⌝ }
+    ensures { λ _. ⌜ slotsIn (now (table .exit)) ≡ change slot (λ t. next (withRegister a x t)) (slotsIn (now (table .entry))) ⌝ }
+{
+    table::set_register(table, slot as usize, a as usize, x);
+    advance(table, slot);
+}
+
+// Register a gets register b.
+fn copy(table: &mut [u32; 3328], slot: u8, a: u8, b: u8)
+    requires { ⌜ Ready slot (slotsIn (now table)) ⌝ }
+    ensures { λ _. ⌜ slotsIn (now (table .exit)) ≡ executed (Copy a b) slot (slotsIn (now (table .entry))) ⌝ }
+{
+    let x = table::register(table, slot as usize, b as usize);
+    gets(table, slot, a, x);
+}
+
+// Register a gets the sum of registers b and c, wrapped to 32 bits.
+fn add(table: &mut [u32; 3328], slot: u8, a: u8, b: u8, c: u8)
+    requires { ⌜ Ready slot (slotsIn (now table)) ⌝ }
+    ensures { λ _. ⌜ slotsIn (now (table .exit)) ≡ executed (Add a b c) slot (slotsIn (now (table .entry))) ⌝ }
+{
+    let x = table::register(table, slot as usize, b as usize);
+    let y = table::register(table, slot as usize, c as usize);
+    gets(table, slot, a, std::num::wrapping_add_u32(x, y));
+}
+
+// Register a gets register b less register c, wrapped to 32 bits.
+fn subtract(table: &mut [u32; 3328], slot: u8, a: u8, b: u8, c: u8)
+    requires { ⌜ Ready slot (slotsIn (now table)) ⌝ }
+    ensures { λ _. ⌜ slotsIn (now (table .exit)) ≡ executed (Subtract a b c) slot (slotsIn (now (table .entry))) ⌝ }
+{
+    let x = table::register(table, slot as usize, b as usize);
+    let y = table::register(table, slot as usize, c as usize);
+    gets(table, slot, a, std::num::wrapping_sub_u32(x, y));
+}
+
+// The place becomes b if register a is 0.
+fn zero(table: &mut [u32; 3328], slot: u8, a: u8, b: u8)
+    requires { ⌜ Ready slot (slotsIn (now table)) ⌝ }
+    ensures { λ _. ⌜ slotsIn (now (table .exit)) ≡ executed (Zero a b) slot (slotsIn (now (table .entry))) ⌝ }
+{
+    if table::register(table, slot as usize, a as usize) == 0 {
+        table::set_pc(table, slot as usize, b as u32);
+    } else {
+        advance(table, slot);
+    }
+}
+
+// The task's own label is joined with a.
+fn raise(table: &mut [u32; 3328], slot: u8, a: u8)
+    requires { ⌜ Ready slot (slotsIn (now table)) ⌝ }
+    ensures { λ _. ⌜ slotsIn (now (table .exit)) ≡ executed (Raise a) slot (slotsIn (now (table .entry))) ⌝ }
+{
+    let own = table::label(table, slot as usize);
+    table::set_label(table, slot as usize, label::join(own, a));
+    advance(table, slot);
+}
+
+// Register a gets the task's own label, then register b its own slot.
+fn identity(table: &mut [u32; 3328], slot: u8, a: u8, b: u8)
+    requires { ⌜ Ready slot (slotsIn (now table)) ⌝ }
+    ensures { λ _. ⌜ slotsIn (now (table .exit)) ≡ executed (Identity a b) slot (slotsIn (now (table .entry))) ⌝ }
+{
+    let own = table::label(table, slot as usize);
+    table::set_register(table, slot as usize, a as usize, own as u32);
+    gets(table, slot, b, slot as u32);
+}
+
+// ---- messages
+
+// The message joins the mailbox of a live task that has fewer than four of its label; in all other cases it is dropped.
+fn offer(table: &mut [u32; 3328], to: u32, label: u8, sender: u8, value: u32)
+    requires { ⌜ RoomFor label (taskAt (slotsIn (now table)) to .mailbox) ⌝ }
+    ensures { λ _. ⌜ slotsIn (now (table .exit))
+        ≡ perform (deliver to (record { label = label; sender = sender; value = value })) (slotsIn (now (table .entry))) ⌝ }
+{
+    if table::kind(table, to as usize) == 1 {
+        if table::count_label(table, to as usize, label) < 4 {
+            table::append(table, to as usize, label, sender, value);
+        }
+    }
+}
+
+// Sends register c under label b to the slot numbered in register a; a label that does not admit it stops the task.
+fn send(table: &mut [u32; 3328], slot: u8, a: u8, b: u8, c: u8)
+    requires { ⌜ Ready slot (slotsIn (now table)) × (b ≤ 15) ⌝ }
+    ensures { λ _. ⌜ slotsIn (now (table .exit)) ≡ executed (Send a b c) slot (slotsIn (now (table .entry))) ⌝ }
+{
+    if label::flows(table::label(table, slot as usize), b) {
+        let to = table::register(table, slot as usize, a as usize);
+        let value = table::register(table, slot as usize, c as usize);
+        advance(table, slot);
+        offer(table, to, b, slot, value);
+    } else {
+        table::set_kind(table, slot as usize, 4);
+    }
+}
+
+// Message i goes: its value into register a, then its sender into register b.
+fn take_message(table: &mut [u32; 3328], slot: u8, i: usize, a: u8, b: u8)
+    requires { ⌜ taskAt (slotsIn (now table)) slot .pc < 256 ⌝ }
+    ensures { λ _. ⌜ slotsIn (now (table .exit))
+        ≡ change slot (λ t. next (withRegister b (messageAt (slotsIn (now (table .entry))) slot i .sender)
+        (withRegister a (messageAt (slotsIn (now (table .entry))) slot i .value) (withoutMessage i t)))) (slotsIn (now (table .entry))) ⌝ }
+{
+    let value = table::message_value(table, slot as usize, i);
+    let sender = table::message_sender(table, slot as usize, i);
+    table::remove(table, slot as usize, i);
+    table::set_register(table, slot as usize, a as usize, value);
+    gets(table, slot, b, sender as u32);
+}
+
+// Takes the oldest receivable message: whether there was one.
+fn take(table: &mut [u32; 3328], slot: u8, a: u8, b: u8) -> bool
+    requires { ⌜ Ready slot (slotsIn (now table)) ⌝ }
+    ensures { λ r. ⌜ (slotsIn (now (table .exit)) ≡ executed (Take a b) slot (slotsIn (now (table .entry))))
+        × (r ≡ isGiven (oldest flows (taskAt (slotsIn (now (table .entry))) slot))) ⌝ }
+{
+    let own = table::label(table, slot as usize);
+    let i = table::oldest(table, slot as usize, own);
+    if i < table::mailbox_length(table, slot as usize) {
+        take_message(table, slot, i, a, b);
+        true
+    } else {
+        false
+    }
+}
+
+// Takes as above; with nothing receivable the place becomes c.
+fn poll(table: &mut [u32; 3328], slot: u8, a: u8, b: u8, c: u8)
+    requires { ⌜ Ready slot (slotsIn (now table)) ⌝ }
+    ensures { λ _. ⌜ slotsIn (now (table .exit)) ≡ executed (Poll a b c) slot (slotsIn (now (table .entry))) ⌝ }
+{
+    if take(table, slot, a, b) {} else {
+        table::set_pc(table, slot as usize, c as u32);
+    }
+}
+
+// ---- new tasks
+
+// A new task in slot `child`, of the label, spare slots and place given and with the parent's slot in register 0.
+fn spawn(table: &mut [u32; 3328], child: usize, label: u8, spare: u8, pc: u8, parent: u8)
+    ensures { λ _. ⌜ slotsIn (now (table .exit)) ≡ set (slotsIn (now (table .entry))) child
+        (used (record { kind = 1; label = label; spare = spare; pc = pc; registers = parent ∷ replicate 7 0; mailbox = [] })) ⌝ }
+{
+    table::put_task(table, child, 1, label, spare, pc as u32);
+    table::set_register(table, child, 0, parent as u32);
+}
+
+// A new task at place b with the last c of the task's spare slots, its slot into register a; too few spare slots stop the task.
+fn sandbox(table: &mut [u32; 3328], slot: u8, a: u8, b: u8, c: u8)
+    requires { ⌜ Ready slot (slotsIn (now table)) × (1 ≤ c) ⌝ }
+    ensures { λ _. ⌜ slotsIn (now (table .exit)) ≡ executed (Sandbox a b c) slot (slotsIn (now (table .entry))) ⌝ }
+{
+    let spare = table::spare(table, slot as usize);
+    if c <= spare {
+        let own = table::label(table, slot as usize);
+        let left = spare - c;
+        let child = (slot as u32) + (left as u32) + 1;
+        table::set_spare(table, slot as usize, left);
+        gets(table, slot, a, child);
+        spawn(table, child as usize, own, c - 1, b, slot);
+    } else {
+        table::set_kind(table, slot as usize, 5);
+    }
+}
+
+// ---- turns
+
+// Carries an instruction out.
+fn execute(table: &mut [u32; 3328], slot: u8, i: Instruction)
+    requires { ⌜ Ready slot (slotsIn (now table)) × WasDecoded i ⌝ }
+    ensures { λ _. ⌜ slotsIn (now (table .exit)) ≡ executed i slot (slotsIn (now (table .entry))) ⌝ }
+{
+    match i {
+        Instruction::End => table::set_kind(table, slot as usize, 2),
+        Instruction::Set(a, b, c) => gets(table, slot, a, (b as u32) * 256 + (c as u32)),
+        Instruction::Copy(a, b) => copy(table, slot, a, b),
+        Instruction::Add(a, b, c) => add(table, slot, a, b, c),
+        Instruction::Subtract(a, b, c) => subtract(table, slot, a, b, c),
+        Instruction::Go(a) => table::set_pc(table, slot as usize, a as u32),
+        Instruction::Zero(a, b) => zero(table, slot, a, b),
+        Instruction::Raise(a) => raise(table, slot, a),
+        Instruction::Send(a, b, c) => send(table, slot, a, b, c),
+        Instruction::Take(a, b) => {
+            take(table, slot, a, b);
+        }
+        Instruction::Poll(a, b, c) => poll(table, slot, a, b, c),
+        Instruction::Sandbox(a, b, c) => sandbox(table, slot, a, b, c),
+        Instruction::Identity(a, b) => identity(table, slot, a, b),
+    }
+}
+
+// What a live task does with its turn: with place N it gets kind 3, else it carries out one instruction.
+fn act(table: &mut [u32; 3328], program: &[u8], slot: u8)
+    requires { ⌜ Valid (stateWith (now program) slot (now table)) × (hasLiveTask (slotAt (slotsIn (now table)) slot) ≡ true) ⌝ }
+    ensures { λ _. ⌜ slotsIn (now (table .exit))
+        ≡ applied slot (outcome flows join (now (program .entry)) slot (taskAt (slotsIn (now (table .entry))) slot)) (slotsIn (now (table .entry))) ⌝ }
+{
+    let pc = table::pc(table, slot as usize) as usize;
+    if pc == program.len() / 4 {
+        table::set_kind(table, slot as usize, 3);
+    } else {
+        let decoded = instruction::instruction_at(program, pc);
+        match decoded {
+            Decoded::Legal(i) => execute(table, slot, i),
+            Decoded::Illegal => {}
+        }
+    }
+}
+
+// The turn of a slot: whether it met a live task.
+fn turn(table: &mut [u32; 3328], program: &[u8], slot: u8) -> bool
+    requires { ⌜ Valid (stateWith (now program) slot (now table)) ⌝ }
+    ensures { λ r. ⌜ (slotsIn (now (table .exit)) ≡ turns 1 (stateWith (now (program .entry)) slot (now (table .entry))) .slots)
+        × (r ≡ hasLiveTask (slotAt (slotsIn (now (table .entry))) slot)) ⌝ }
+{
+    if table::kind(table, slot as usize) == 1 {
+        act(table, program, slot);
+        true
+    } else {
+        false
+    }
+}
+
+// n turns of the tasks in the table, slot after slot.
+fn turns(table: &mut [u32; 3328], program: &[u8], first: u8, n: u64) -> RunAnswer
+    requires { ⌜ Valid (stateWith (now program) first (now table)) ⌝ }
+    ensures { λ r. ⌜ (r ≡ turnsTold n (stateWith (now (program .entry)) first (now (table .entry))))
+        × (slotsIn (now (table .exit)) ≡ turns n (stateWith (now (program .entry)) first (now (table .entry))) .slots) ⌝ }
+{
+    let mut slot = first;
+    let mut busy: u64 = 0;
+    let mut i: u64 = 0;
+    while i < n {
+        busy += turn(table, program, slot) as u64;
+        slot = (slot + 1) % 16;
+        i += 1;
+    }
+    RunAnswer {
+        number: 0,
+        turn: slot,
+        busy: busy,
+    }
+}
+
+// What a run of turns tells: the image's number, 0 where it is accepted; the slot whose turn is next; how many of the turns
+// met a live task.
+pub struct RunAnswer {
+    pub number: u8,
+    pub turn: u8,
+    pub busy: u64,
+}
+
+// Loads an image, where it is accepted, and carries out n turns.
+pub fn run(table: &mut [u32; 3328], image: &[u8], n: u64) -> RunAnswer
+    ensures { λ r. ⌜ (r ≡ runAnswer (now (image .entry)) n)
+        × (slotsIn (now (table .exit)) ≡ slotsAfter (now (image .entry)) n (slotsIn (now (table .entry)))) ⌝ }
+{
+    let number = snapshot::load(table, image);
+    if number == 0 {
+        turns(table, image::program(image), image::turn_slot(image), n)
+    } else {
+        RunAnswer {
+            number: number,
+            turn: 0,
+            busy: 0,
+        }
+    }
+}
