@@ -1,4 +1,4 @@
--- What turns keep: a used slot is never handed back, and a task that has stopped stays as it is.
+-- What turns keep: the program; a used slot is never handed back, and a task that has stopped stays as it is.
 use Prim.Native.Nat.{ℕ, zero, suc}
 use mathlib.Core.Path.{_≡_, refl, ap}
 use mathlib.Core.Bool.{Bool, true, false, _&&_}
@@ -14,6 +14,13 @@ use Rattle.machine.specs.Valid.{Valid}
 use Rattle.machine.proofs.Effect.{Allowed, Contained, outcome-contained}
 use Rattle.machine.proofs.Spare.{Spares, spawn-unused}
 use Rattle.machine.proofs.Valid.{valid-spares, turns-valid}
+
+-- ---- the program
+
+pub turns-program : (flows : ℕ → ℕ → Bool) (join : ℕ → ℕ → ℕ) (n : ℕ) (state : State) → turns flows join n state .program ≡ state .program
+unfolding turns turn
+turns-program flows join zero state = refl
+turns-program flows join (suc n) state = turns-program flows join n state
 
 -- ---- slots
 

@@ -12,6 +12,7 @@ use Rattle.machine.specs.Machine.{turns, view}
 use Rattle.machine.proofs.Valid as Valid
 use Rattle.machine.proofs.View.{AllSeen, view-all}
 use Rattle.machine.proofs.Turn as Turn
+use Rattle.machine.proofs.Kept as Kept
 
 -- what flows to a label that flows to v flows to v
 pub observer-down : (v : ℕ) → DownClosed flows (λ l. flows l v)
@@ -24,6 +25,11 @@ turns-valid = Valid.turns-valid flows join label-order
 
 pub view-valid : (v : ℕ) (s : State) → Valid s → Valid (view v s)
 view-valid v = Valid.view-valid (λ l. flows l v)
+
+-- ---- and so is the program
+
+pub turns-program : (n : ℕ) (s : State) → turns n s .program ≡ s .program
+turns-program = Kept.turns-program flows join
 
 -- ---- views and turns
 

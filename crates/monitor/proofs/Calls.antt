@@ -1,5 +1,5 @@
 -- Laws of a call: when it is accepted, what it then tells and writes, and which numbers it may tell.
-use Prim.Native.Nat.{ℕ, _≤_}
+use Prim.Native.Nat.{ℕ, suc, _≤_}
 use mathlib.Core.Logic.{_≢_}
 use mathlib.Core.Path.{_≡_, refl, sym, _∙_}
 use mathlib.Core.Bool.{cond}
@@ -14,7 +14,8 @@ use Rattle.wire.proofs.Output.{take-overwrite, drop-overwrite, length-overwrite
 use Rattle.image.specs.Refusal.{_then_, unless}
 use Rattle.image.specs.Image.{imageNumber}
 use Rattle.image.proofs.Refusal.{then-stop, then-left, then-right, then-holds, unless-holds, unless-none}
-use Rattle.monitor.specs.Calls.{Call, callNumber, refusal, callAnswer, callOutput}
+use Rattle.monitor.specs.declared.Answer.{Answer}
+use Rattle.monitor.specs.Calls.{Call, callNumber, refusal, acceptance, callAnswer, callOutput}
 use Rattle.monitor.specs.Claims.{AcceptedExactly, WritesItsAnswer}
 
 module _ (c : Call) (image out : List ℕ) where
@@ -81,6 +82,14 @@ module _ (c : Call) (image out : List ℕ) where
       rw answer-number
       (then-holds P (c .argumentNumber) _ a (then-holds P (imageNumber image) _ i (unless-holds P (leb (length (c .bytes)) (length out)) 13 z o)))
 
+  -- ---- a call whose argument is beyond its limit
+
+  pub call-beyond : (n : ℕ) → c .argumentNumber ≡ suc n → (callAnswer c image out ≡ refusal (suc n)) × (callOutput c image out ≡ out)
+  unfolding callAnswer callOutput callNumber
+  call-beyond n beyond =
+      let some : suc n ≢ 0 = λ e. omega arith in
+      rw (beyond, then-stop (suc n) some (imageNumber image then unless (leb (length (c .bytes)) (length out)) 13), ne-eqb (suc n) 0 some) (refl, refl)
+
   -- ---- a call whose argument is within its limit
 
   module _ (argument : c .argumentNumber ≡ 0) where
@@ -90,10 +99,10 @@ module _ (c : Call) (image out : List ℕ) where
     call-refused refused =
         rw (argument, then-stop (imageNumber image) refused (unless (leb (length (c .bytes)) (length out)) 13), ne-eqb (imageNumber image) 0 refused) (refl, refl)
 
-    -- its image is accepted, and only the output may be too short
-    pub call-accepted : imageNumber image ≡ 0
-        → (callAnswer c image out ≡ cond (leb (length (c .bytes)) (length out)) (record { number = 0; length = length (c .bytes); busy = c .busy }) (refusal 13))
-        × (callOutput c image out ≡ written (c .bytes) out)
+    -- its image is accepted, and its bytes are written where the output has room for them
+    pub call-accepted : imageNumber image ≡ 0 → {b after : List ℕ} {k : ℕ} {r : Answer} → b ≡ c .bytes → k ≡ c .busy
+        → (r ≡ cond (leb (length b) (length out)) (acceptance b k) (refusal 13)) × (after ≡ written b out)
+        → (r ≡ callAnswer c image out) × (after ≡ callOutput c image out)
     unfolding callAnswer callOutput callNumber
-    call-accepted accepted =
-        rw (argument, accepted) (split (leb (length (c .bytes)) (length out)) (λ e. rw e (refl, refl)) (λ e. rw e (refl, refl)))
+    call-accepted accepted {b} same counted w =
+        rw (argument, accepted, ← same, ← counted, w .0, w .1) (split (leb (length b) (length out)) (λ e. rw e (refl, refl)) (λ e. rw e (refl, refl)))

@@ -95,7 +95,7 @@ pub view-for-15 : ViewFor15
 view-for-15 image a = ap imageBytes (view-15 (stateOf image) (read-valid image a)) ∙ rewritten image a
 
 pub secrecy : Secrecy
-secrecy v seen image image′ a a′ e calls calls′ n = Secrecy.secrecy v seen image image′ a a′ e calls calls′ n
+secrecy v seen image image′ a a′ e calls calls′ p p′ n = Secrecy.secrecy v seen image image′ a a′ e calls calls′ p p′ n
 
 pub equal-views-are-equal-bytes : EqualViewsAreEqualBytes
 equal-views-are-equal-bytes v seen image image′ a a′ = (equal-bytes v seen image image′, equal-views v seen image image′ a a′)

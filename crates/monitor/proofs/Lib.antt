@@ -4,3 +4,4 @@ pub mod Pipeline
 pub mod Secrecy
 pub mod Claims
 pub mod Examples
+pub mod Promises

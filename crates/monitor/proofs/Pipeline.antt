@@ -1,20 +1,66 @@
--- What is written of an image that was loaded: the bytes of its state.
+-- What is written of the table for an image that was loaded and run: the bytes of its state in the view.
 use Prim.Native.Nat.{ℕ}
-use mathlib.Core.Path.{_≡_, ap, _∙_}
-use mathlib.Core.List.{List}
+use mathlib.Core.Path.{_≡_, refl, sym, ap, _∙_}
+use mathlib.Core.List.{List, []}
+use borrow.Author.Tests.{eqb-true, eqb-false}
+use lib.Dec.{eqb}
 use Rattle.wire.specs.Lists.{Bytes}
-use Rattle.machine.specs.State.{Slot}
-use Rattle.machine.specs.Machine.{view}
-use Rattle.machine.proofs.Machine.{view-15}
+use Rattle.wire.proofs.Lists.{split}
+use Rattle.machine.specs.State.{State}
+use Rattle.machine.specs.Machine.{turns, view}
+use Rattle.machine.proofs.Machine.{turns-valid, turns-program, view-15}
 use Rattle.image.specs.Image.{programOf, turnSlotOf, imageNumber, stateOf, imageBytes}
 use Rattle.image.proofs.Image.{accepted-valid}
 use Rattle.table.specs.Table.{slotsIn}
-use Rattle.snapshot.specs.Writing.{snapshotBytes}
+use Rattle.snapshot.specs.Writing.{stateIn, snapshotBytes}
+use Rattle.turn.specs.declared.RunAnswer.{RunAnswer}
+use Rattle.turn.specs.Answer.{runAnswer}
+use Rattle.turn.proofs.Answer.{run-accepted, run-refused}
+use Rattle.monitor.specs.Calls.{rewriteCall, rewriteAnswer, rewriteOutput, viewBytes, viewCall, viewAnswer, viewOutput}
+use Rattle.monitor.proofs.Calls.{call-refused}
 
-module _ (image : List ℕ) (bytes : Bytes image) (accepted : imageNumber image ≡ 0) (words : List ℕ) (loaded : slotsIn words ≡ stateOf image .slots) where
-  -- for label 15 the view is the image
-  pub rewrite-bytes : snapshotBytes words image (turnSlotOf image) 15 ≡ imageBytes (stateOf image)
-  unfolding snapshotBytes stateOf
-  rewrite-bytes =
-      ap (λ (ss : List Slot). imageBytes (view 15 (record { program = programOf image; turnSlot = turnSlotOf image; slots = ss }))) loaded
-      ∙ ap imageBytes (view-15 (stateOf image) (accepted-valid image bytes accepted))
+module _ (image words : List ℕ) where
+  -- the table holds the slots of a state with the image's program
+  snapshot-is : (v : ℕ) (s : State) → s .program ≡ programOf image → slotsIn words ≡ s .slots
+      → snapshotBytes words image (s .turnSlot) v ≡ imageBytes (view v s)
+  unfolding snapshotBytes
+  snapshot-is v s program slots =
+      let same : stateIn words image (s .turnSlot) ≡ s = λ i. record { program = sym program i; turnSlot = s .turnSlot; slots = slots i } in
+      ap (λ (r : State). imageBytes (view v r)) same
+
+  -- loaded, and nothing done
+  pub view-written : (v : ℕ) → slotsIn words ≡ stateOf image .slots → snapshotBytes words image (turnSlotOf image) v ≡ viewBytes v image
+  unfolding stateOf
+  view-written v loaded = snapshot-is v (stateOf image) refl loaded
+
+-- ---- the observer 15 sees everything
+
+module _ (image : List ℕ) (bytes : Bytes image) where
+  -- n turns done
+  pub turns-written : (words : List ℕ) (n : ℕ) → imageNumber image ≡ 0 → slotsIn words ≡ turns n (stateOf image) .slots
+      → snapshotBytes words image (turns n (stateOf image) .turnSlot) 15 ≡ imageBytes (turns n (stateOf image))
+  unfolding stateOf
+  turns-written words n accepted ran =
+      let s = stateOf image in
+      snapshot-is image words 15 (turns n s) (turns-program n s) ran
+      ∙ ap imageBytes (view-15 (turns n s) (turns-valid n s (accepted-valid image bytes accepted)))
+
+  -- to write the image again is to write its view for 15
+  pub view-rewrites : (out : List ℕ) → (viewAnswer 15 image out ≡ rewriteAnswer image out) × (viewOutput 15 image out ≡ rewriteOutput image out)
+  view-rewrites out =
+      split (eqb (imageNumber image) 0)
+      (λ e. let same : viewBytes 15 image ≡ imageBytes (stateOf image)
+      = ap imageBytes (view-15 (stateOf image) (accepted-valid image bytes (eqb-true (imageNumber image) 0 e))) in
+      rw same (refl, refl))
+      (λ e. let refused = eqb-false (imageNumber image) 0 e in
+      let v = call-refused (viewCall 15 image) image out refl refused in
+      let w = call-refused (rewriteCall image) image out refl refused in
+      (v .0 ∙ sym (w .0), v .1 ∙ sym (w .1)))
+
+-- ---- a run tells the image's number
+
+pub run-number : (image : List ℕ) (n : ℕ) → runAnswer image n .number ≡ imageNumber image
+run-number image n =
+    split (eqb (imageNumber image) 0)
+    (λ e. let accepted = eqb-true (imageNumber image) 0 e in ap (λ (r : RunAnswer). r .number) (run-accepted image n [] accepted .0) ∙ sym accepted)
+    (λ e. ap (λ (r : RunAnswer). r .number) (run-refused image n [] (eqb-false (imageNumber image) 0 e) .0))

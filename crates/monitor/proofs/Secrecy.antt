@@ -16,8 +16,8 @@ use Rattle.machine.proofs.Machine.{turns-valid, view-valid, turns-add, turns-sa
 use Rattle.image.specs.Refusal.{unless}
 use Rattle.image.specs.Image.{stateOf, imageBytes}
 use Rattle.image.proofs.Image.{accepted-valid, image-back, image-bytes, image-accepted, image-forth}
-use Rattle.monitor.specs.Calls.{callNumber, callAnswer, turnsCall, viewBytes, viewCall, viewAnswer, viewOutput}
-use Rattle.monitor.specs.Claims.{Accepted, TurnCall, isAccepted, imageAfter, finalImage, turnsCarriedOut, EqualViews}
+use Rattle.monitor.specs.Calls.{callNumber, callAnswer, turnsCall, turnsAnswer, TurnsPromise, viewBytes, viewCall, viewAnswer, viewOutput}
+use Rattle.monitor.specs.Claims.{Accepted, TurnCall, isAccepted, imageAfter, finalImage, turnsCarriedOut, KeptPromises, EqualViews}
 use Rattle.monitor.proofs.Calls.{accepted-exactly, call-written, writes-its-answer}
 
 -- ---- accepted images and valid states
@@ -51,7 +51,9 @@ module _ (v : ℕ) (seen : v ≤ 15) where
         let k′ = length (viewBytes v image′) in
         let out : List ℕ = replicate (k + k′) 0 in
         let l = length-replicate {A = ℕ} (k + k′) 0 in
-        sym (view-shown image (e .left) out (omega arith)) ∙ e .written out out refl ∙ view-shown image′ (e .right) out (omega arith)
+        sym (view-shown image (e .left) out (omega arith))
+        ∙ e .shown out out (viewAnswer v image out) (viewAnswer v image′ out) (viewOutput v image out) (viewOutput v image′ out) refl (refl, refl) (refl, refl) .1
+        ∙ view-shown image′ (e .right) out (omega arith)
 
     module _ (a : Accepted image) (a′ : Accepted image′) (e : viewBytes v image ≡ viewBytes v image′) where
       number-same : (out out′ : List ℕ) → length out ≡ length out′ → callNumber (viewCall v image) image out ≡ callNumber (viewCall v image′) image′ out′
@@ -62,42 +64,50 @@ module _ (v : ℕ) (seen : v ≤ 15) where
       unfolding callAnswer
       answer-same out out′ h = rw (number-same out out′ h, e)
 
+      written-same : (out out′ : List ℕ) → length out ≡ length out′
+          → take (viewAnswer v image out .length) (viewOutput v image out) ≡ take (viewAnswer v image′ out′ .length) (viewOutput v image′ out′)
+      written-same out out′ h =
+          call-written (viewCall v image) image out ∙ rw (number-same out out′ h, e) (sym (call-written (viewCall v image′) image′ out′))
+
       pub equal-views : EqualViews v image image′
       equal-views = record {
         left = a;
         right = a′;
-        told = answer-same;
-        written = λ out out′ h.
-            call-written (viewCall v image) image out
-            ∙ rw (number-same out out′ h, e) (sym (call-written (viewCall v image′) image′ out′));
+        shown = λ out out′ told told′ after after′ h p p′. rw (p .0, p .1, p′ .0, p′ .1) (answer-same out out′ h, written-same out out′ h);
       }
 
 -- ---- a list of calls comes to its sum of turns
 
 -- the turns that one call carries out
-abbrev turnsOf : TurnCall → List ℕ → ℕ
-turnsOf c image = cond (isAccepted c image) (c .n) 0
+abbrev turnsOf : TurnCall → ℕ
+turnsOf c = cond (isAccepted c) (c .n) 0
 
--- an accepted call leaves the image after its turns, and a refused one the image itself
-after-call : (c : TurnCall) (image : List ℕ) → Accepted image → imageAfter c image ≡ imageBytes (turns (turnsOf c image) (stateOf image))
-unfolding Turn.turns
-after-call c image a =
-    split (isAccepted c image)
-    (λ e. rw e (writes-its-answer (turnsCall (c .n) image) image (c .out) .accepted (eqb-true _ 0 e) .2))
-    (λ e. rw e (sym (rewritten image a)))
+module _ (c : TurnCall) (image : List ℕ) (a : Accepted image) (p : TurnsPromise (c .n) image (c .out) (c .told) (c .after)) where
+  -- an accepted call leaves the image after its turns, and a refused one the image itself
+  after-call : imageAfter c image ≡ imageBytes (turns (turnsOf c) (stateOf image))
+  unfolding Turn.turns
+  after-call =
+      split (isAccepted c)
+      (λ e. let number : turnsAnswer (c .n) image (c .out) .number ≡ 0 = rw (p .0) at (eqb-true (c .told .number) 0 e) in
+      rw (e, p .0, p .1) (writes-its-answer (turnsCall (c .n) image) image (c .out) .accepted number .2))
+      (λ e. rw e (sym (rewritten image a)))
 
-after-calls : (cs : List TurnCall) (image : List ℕ) → Accepted image
-    → finalImage cs image ≡ imageBytes (turns (turnsCarriedOut cs image) (stateOf image))
+  after-valid : Valid (turns (turnsOf c) (stateOf image))
+  after-valid = turns-valid (turnsOf c) (stateOf image) (read-valid image a)
+
+  after-accepted : Accepted (imageAfter c image)
+  after-accepted = rw after-call (written-accepted (turns (turnsOf c) (stateOf image)) after-valid)
+
+  after-state : stateOf (imageAfter c image) ≡ turns (turnsOf c) (stateOf image)
+  after-state = rw after-call (image-forth (turns (turnsOf c) (stateOf image)) after-valid)
+
+after-calls : (cs : List TurnCall) (image : List ℕ) → Accepted image → KeptPromises cs image
+    → finalImage cs image ≡ imageBytes (turns (turnsCarriedOut cs) (stateOf image))
 unfolding Turn.turns
-after-calls [] image a = sym (rewritten image a)
-after-calls (c ∷ cs) image a =
-    let m = turnsOf c image in
-    let s = stateOf image in
-    let ok = turns-valid m s (read-valid image a) in
-    let next : Accepted (imageAfter c image) = rw (after-call c image a) (written-accepted (turns m s) ok) in
-    let state : stateOf (imageAfter c image) ≡ turns m s = rw (after-call c image a) (image-forth (turns m s) ok) in
-    after-calls cs (imageAfter c image) next
-    ∙ ap imageBytes (ap (turns (turnsCarriedOut cs (imageAfter c image))) state ∙ sym (turns-add m (turnsCarriedOut cs (imageAfter c image)) s))
+after-calls [] image a p = sym (rewritten image a)
+after-calls (c ∷ cs) image a p =
+    after-calls cs (imageAfter c image) (after-accepted c image a (p .0)) (p .1)
+    ∙ ap imageBytes (ap (turns (turnsCarriedOut cs)) (after-state c image a (p .0)) ∙ sym (turns-add (turnsOf c) (turnsCarriedOut cs) (stateOf image)))
 
 -- ---- the rule
 
@@ -125,6 +135,6 @@ module _ (v : ℕ) (seen : v ≤ 15) (image image′ : List ℕ) (a : Accepted i
       ∙ ap imageBytes (turns-same v n s s′ ok ok′ states-same)
       ∙ ap (λ (r : State). imageBytes (view v r)) (sym (image-forth (turns n s′) t′)))
 
-  pub secrecy : (calls calls′ : List TurnCall) → turnsCarriedOut calls image ≡ turnsCarriedOut calls′ image′
+  pub secrecy : (calls calls′ : List TurnCall) → KeptPromises calls image → KeptPromises calls′ image′ → turnsCarriedOut calls ≡ turnsCarriedOut calls′
       → EqualViews v (finalImage calls image) (finalImage calls′ image′)
-  secrecy calls calls′ n = rw (after-calls calls image a, after-calls calls′ image′ a′, n) (turns-equal (turnsCarriedOut calls′ image′))
+  secrecy calls calls′ p p′ n = rw (after-calls calls image a p, after-calls calls′ image′ a′ p′, n) (turns-equal (turnsCarriedOut calls′))

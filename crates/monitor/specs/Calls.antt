@@ -1,5 +1,6 @@
 -- The calls: for each, what it tells and what its output holds afterwards.
 use Prim.Native.Nat.{ℕ}
+use mathlib.Core.Path.{_≡_}
 use mathlib.Core.Bool.{cond}
 use mathlib.Core.List.{List}
 use lib.Dec.{leb, eqb}
@@ -30,10 +31,13 @@ callNumber c image out = c .argumentNumber then imageNumber image then unless (l
 abbrev pub refusal : ℕ → Answer
 refusal n = record { number = n; length = 0; busy = 0 }
 
+abbrev pub acceptance : List ℕ → ℕ → Answer
+acceptance bytes busy = record { number = 0; length = length bytes; busy = busy }
+
 unfoldable pub callAnswer : Call → List ℕ → List ℕ → Answer
 callAnswer c image out =
     cond (eqb (callNumber c image out) 0)
-    (record { number = 0; length = length (c .bytes); busy = c .busy })
+    (acceptance (c .bytes) (c .busy))
     (refusal (callNumber c image out))
 
 -- a refused call writes no byte, and an accepted one only the bytes of its answer
@@ -63,6 +67,10 @@ turnsAnswer n image out = callAnswer (turnsCall n image) image out
 abbrev pub turnsOutput : ℕ → List ℕ → List ℕ → List ℕ
 turnsOutput n image out = callOutput (turnsCall n image) image out
 
+-- what the code promises of a call that told this and whose output then held `after`
+abbrev pub TurnsPromise : ℕ → List ℕ → List ℕ → Answer → List ℕ → Type 0
+TurnsPromise n image out told after = (told ≡ turnsAnswer n image out) × (after ≡ turnsOutput n image out)
+
 -- ---- view: the view for label v; 1 observer
 
 abbrev pub viewBytes : ℕ → List ℕ → List ℕ
@@ -76,3 +84,6 @@ viewAnswer v image out = callAnswer (viewCall v image) image out
 
 abbrev pub viewOutput : ℕ → List ℕ → List ℕ → List ℕ
 viewOutput v image out = callOutput (viewCall v image) image out
+
+abbrev pub ViewPromise : ℕ → List ℕ → List ℕ → Answer → List ℕ → Type 0
+ViewPromise v image out told after = (told ≡ viewAnswer v image out) × (after ≡ viewOutput v image out)

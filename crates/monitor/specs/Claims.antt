@@ -14,7 +14,7 @@ use Rattle.image.specs.Refusal.{_then_, unless}
 use Rattle.image.specs.Record.{recordBytes}
 use Rattle.image.specs.Image.{imageNumber, stateOf, imageBytes, recordStart}
 use Rattle.monitor.specs.declared.Answer.{Answer}
-use Rattle.monitor.specs.Calls.{recordAnswer, Call, callAnswer, callOutput, rewriteAnswer, rewriteOutput, turnsAnswer, turnsOutput, viewBytes, viewAnswer, viewOutput}
+use Rattle.monitor.specs.Calls.{recordAnswer, Call, callAnswer, callOutput, rewriteAnswer, rewriteOutput, turnsAnswer, TurnsPromise, viewBytes, viewAnswer, ViewPromise}
 
 -- an accepted image: bytes whose number is 0
 pub record Accepted (image : List ℕ) : Type 0 where
@@ -112,19 +112,20 @@ ViewFor15 = (image : List ℕ) → Accepted image → viewBytes 15 image ≡ ima
 
 -- ---- demand 3: the secrecy rule
 
--- a turn call of a list: its n and its output
+-- a turn call as it went: its n and its output, what it told, and what its output held afterwards
 pub record TurnCall : Type 0 where
   pub n : ℕ
   pub out : List ℕ
+  pub told : Answer
+  pub after : List ℕ
 
-abbrev pub isAccepted : TurnCall → List ℕ → Bool
-isAccepted c image = eqb (turnsAnswer (c .n) image (c .out) .number) 0
+abbrev pub isAccepted : TurnCall → Bool
+isAccepted c = eqb (c .told .number) 0
 
 -- "The image that an accepted call writes is the next call's image; a refused call carries out no turn and leaves the
 -- image as it was."
 abbrev pub imageAfter : TurnCall → List ℕ → List ℕ
-imageAfter c image =
-    cond (isAccepted c image) (take (turnsAnswer (c .n) image (c .out) .length) (turnsOutput (c .n) image (c .out))) image
+imageAfter c image = cond (isAccepted c) (take (c .told .length) (c .after)) image
 
 -- the image that a list ends with
 abbrev pub finalImage : List TurnCall → List ℕ → List ℕ
@@ -132,27 +133,32 @@ finalImage [] image = image
 finalImage (c ∷ cs) image = finalImage cs (imageAfter c image)
 
 -- "the sum of n over the accepted turn calls"
-abbrev pub turnsCarriedOut : List TurnCall → List ℕ → ℕ
-turnsCarriedOut [] image = 0
-turnsCarriedOut (c ∷ cs) image = cond (isAccepted c image) (c .n) 0 + turnsCarriedOut cs (imageAfter c image)
+abbrev pub turnsCarriedOut : List TurnCall → ℕ
+turnsCarriedOut [] = 0
+turnsCarriedOut (c ∷ cs) = cond (isAccepted c) (c .n) 0 + turnsCarriedOut cs
+
+-- all that is known of how the calls went: each kept the promise of `monitor::turns` for the image that it was given
+abbrev pub KeptPromises : List TurnCall → List ℕ → Type 0
+KeptPromises [] image = Unit {0}
+KeptPromises (c ∷ cs) image = TurnsPromise (c .n) image (c .out) (c .told) (c .after) × KeptPromises cs (imageAfter c image)
 
 -- both images "are accepted, and their views for v are equal: the view call for v, given outputs of equal length, tells
 -- the same number and the same length for both and writes the same bytes."
 pub record EqualViews (v : ℕ) (image image′ : List ℕ) : Type 0 where
   pub left : Accepted image
   pub right : Accepted image′
-  pub told : (out out′ : List ℕ) → length out ≡ length out′ → viewAnswer v image out ≡ viewAnswer v image′ out′
-  pub written : (out out′ : List ℕ) → length out ≡ length out′
-      → take (viewAnswer v image out .length) (viewOutput v image out)
-      ≡ take (viewAnswer v image′ out′ .length) (viewOutput v image′ out′)
+  pub shown : (out out′ : List ℕ) (told told′ : Answer) (after after′ : List ℕ) → length out ≡ length out′
+      → ViewPromise v image out told after → ViewPromise v image′ out′ told′ after′
+      → (told ≡ told′) × (take (told .length) after ≡ take (told′ .length) after′)
 
 -- "The two lists start from two accepted images whose views for v are the same bytes." Each holds any turn calls, with any
--- n and any output, refused ones included. "It is a single claim about two whole lists, for every v"
+-- n and any output, refused ones included. "It is a single claim about two whole lists, for every v". It is about the code:
+-- the calls are known by what they told and wrote, and of that only what the code promises (proofs/Promises.antt).
 abbrev pub Secrecy : Type 0
 Secrecy =
     (v : ℕ) → v ≤ 15
     → (image image′ : List ℕ) → Accepted image → Accepted image′ → viewBytes v image ≡ viewBytes v image′
-    → (calls calls′ : List TurnCall) → turnsCarriedOut calls image ≡ turnsCarriedOut calls′ image′
+    → (calls calls′ : List TurnCall) → KeptPromises calls image → KeptPromises calls′ image′ → turnsCarriedOut calls ≡ turnsCarriedOut calls′
     → EqualViews v (finalImage calls image) (finalImage calls′ image′)
 
 -- for accepted images, views that are the same bytes are equal views, and the other way round

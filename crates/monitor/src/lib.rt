@@ -3,7 +3,10 @@
 ghost use mathlib.Core.Path.{_≡_};
 ghost use mathlib.Core.Bool.{cond};
 ghost use lib.Dec.{leb};
-ghost use Rattle.monitor.specs.Calls.{recordAnswer, refusal, rewriteAnswer, rewriteOutput};
+ghost use lib.ListN.{length};
+ghost use Rattle.wire.specs.Output.{written};
+ghost use Rattle.snapshot.specs.Writing.{snapshotBytes};
+ghost use Rattle.monitor.specs.Calls.{recordAnswer, acceptance, refusal, rewriteAnswer, rewriteOutput, turnsAnswer, turnsOutput, viewAnswer, viewOutput};
 
 // What a call tells: 01's number, 0 where it is accepted; the length of what it wrote; the turns that met a live task.
 pub struct Answer {
@@ -31,11 +34,22 @@ fn refused(number: u8) -> Answer
     }
 }
 
-// What is told once it is known how many bytes there are to write and how many the output has room for.
-fn told(size: usize, room: usize, busy: u64) -> Answer
-    ensures { λ r. ⌜ r ≡ cond (leb size room) (record { number = 0; length = size; busy = busy }) (refusal 13) ⌝ }
+// Ends a call whose image is accepted: writes the table's tasks as the observer sees them, or tells 13 where the output has
+// no room for them.
+fn write_answer(
+    out: &mut [u8],
+    table: &[u32; 3328],
+    image: &[u8],
+    turn: u8,
+    observer: u8,
+    busy: u64,
+) -> Answer
+    ensures { λ r. ⌜ (r ≡ cond (leb (length (snapshotBytes (now (table .entry)) (now (image .entry)) turn observer)) (length (now (out .entry))))
+        (acceptance (snapshotBytes (now (table .entry)) (now (image .entry)) turn observer) busy) (refusal 13))
+        × (now (out .exit) ≡ written (snapshotBytes (now (table .entry)) (now (image .entry)) turn observer) (now (out .entry))) ⌝ }
 {
-    if size <= room {
+    let size = snapshot::write(out, table, image, turn, observer);
+    if size <= out.len() {
         Answer {
             number: 0,
             length: size,
@@ -46,17 +60,48 @@ fn told(size: usize, room: usize, busy: u64) -> Answer
     }
 }
 
-// Writes an image again as it was read.
+// Writes the view of an image for an observer.
+pub fn view(image: &[u8], observer: u32, out: &mut [u8]) -> Answer
+    ensures { λ r. ⌜ (r ≡ viewAnswer observer (now (image .entry)) (now (out .entry)))
+        × (now (out .exit) ≡ viewOutput observer (now (image .entry)) (now (out .entry))) ⌝ }
+{
+    if observer > 15 {
+        return refused(1);
+    }
+    let mut table: [u32; 3328] = [0; 3328];
+    let number = snapshot::load(&mut table, image);
+    if number == 0 {
+        let turn = image::turn_slot(image);
+        write_answer(out, &table, image, turn, observer as u8, 0)
+    } else {
+        refused(number)
+    }
+}
+
+// Writes an image again as it was read: for label 15 the view is the image.
 pub fn rewrite(image: &[u8], out: &mut [u8]) -> Answer
     ensures { λ r. ⌜ (r ≡ rewriteAnswer (now (image .entry)) (now (out .entry)))
         × (now (out .exit) ≡ rewriteOutput (now (image .entry)) (now (out .entry))) ⌝ }
 {
+    view(image, 15, out)
+}
+
+// The most turns that one call carries out.
+const TURN_LIMIT: u64 = 1_000_000;
+
+// Writes the image after this many turns, and tells how many of them met a live task.
+pub fn turns(image: &[u8], count: u64, out: &mut [u8]) -> Answer
+    ensures { λ r. ⌜ (r ≡ turnsAnswer count (now (image .entry)) (now (out .entry)))
+        × (now (out .exit) ≡ turnsOutput count (now (image .entry)) (now (out .entry))) ⌝ }
+{
+    if count > TURN_LIMIT {
+        return refused(2);
+    }
     let mut table: [u32; 3328] = [0; 3328];
-    let number = snapshot::load(&mut table, image);
-    if number == 0 {
-        let size = snapshot::write(out, &table, image, image::turn_slot(image), 15);
-        told(size, out.len(), 0)
+    let ran = turn::run(&mut table, image, count);
+    if ran.number == 0 {
+        write_answer(out, &table, image, ran.turn, 15, ran.busy)
     } else {
-        refused(number)
+        refused(ran.number)
     }
 }
