@@ -1,18 +1,31 @@
 # Rithennaw: `make help` lists the targets.
 RT ?= rt
 
-.PHONY: check test fmt clean help
+.PHONY: check test lib link-test bench fmt clean help
 
 # Prove what has changed since the last check.
 check:
 	@$(RT) check
 
-# The gate: the layout, the names that docs/CLAIMS.md cites, then every proof from nothing and every must-fail edit.
-# Its last line is rt's own count.
+# The gate: the layout, the names that docs/CLAIMS.md cites, the archive linked into a C and a Rust program, then every
+# proof from nothing and every must-fail edit. Its last line is rt's own count.
 test:
 	@$(RT) fmt --check
 	@tools/check-claims
+	@RT='$(RT)' tests/link/run
 	@$(RT) ci
+
+# The archive that include/rithennaw.h declares: target/staticlib/librithennaw.a.
+lib:
+	@$(RT) staticlib rithennaw
+
+# The archive linked into a C and a Rust program, and both run.
+link-test:
+	@RT='$(RT)' tests/link/run
+
+# The time of a turn beside a plain interpreter, and the stack of each call.
+bench:
+	@RT='$(RT)' bench/run
 
 fmt:
 	@$(RT) fmt
@@ -21,7 +34,10 @@ clean:
 	@rm -rf target
 
 help:
-	@echo 'make check   prove what has changed since the last check'
-	@echo 'make test    the whole gate, from nothing'
-	@echo 'make fmt     lay every source out'
-	@echo 'make clean   remove what was built'
+	@echo 'make check      prove what has changed since the last check'
+	@echo 'make test       the whole gate, from nothing'
+	@echo 'make lib        the static library for C and Rust, target/staticlib/librithennaw.a'
+	@echo 'make link-test  link it into a C and a Rust program, and run both'
+	@echo 'make bench      the time of a turn and the stack of a call'
+	@echo 'make fmt        lay every source out'
+	@echo 'make clean      remove what was built'

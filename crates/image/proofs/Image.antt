@@ -1,14 +1,15 @@
 -- The round trips of an image: accepted bytes give a valid state that is written as they were, and a valid state's
 -- bytes are accepted and give it back; the lengths of an image; the part of a record.
-use Prim.Native.Nat.{ℕ, suc, _+_, _≤_}
+use Prim.Native.Nat.{ℕ, suc, _+_, _-_, _≤_}
+use mathlib.Core.Logic.{_≢_}
 use mathlib.Core.Path.{_≡_, refl, sym, ap, ap₂, _∙_}
 use mathlib.Core.Bool.{true, _&&_, and-false}
 use mathlib.Core.List.{List, [], _∷_, _++_, append-nil}
 use native.Mathlib.Nat.{zero-add, not-suc-le-zero, le-of-suc-le-suc}
 use native.Mathlib.Omega.{arith}
-use borrow.Author.Tests.{leb-true, le-leb, eqb-true, ne-eqb}
+use borrow.Author.Tests.{leb-true, le-leb, eqb-true, eqb-false, ne-eqb}
 use lib.Dec.{leb, eqb}
-use lib.ListN.{length, getD, take, drop, length-append, length-drop, take-append-drop}
+use lib.ListN.{length, getD, take, drop, length-append, length-take, length-drop, take-append-drop}
 use lib.Seq.{take-add, length-take-le, take-append-seam, drop-append-seam, getD-append-seam, getD-drop, drop-drop, drop-cons}
 use Rattle.wire.specs.Lists.{Bytes, IsByte}
 use Rattle.wire.specs.Numbers.{decodeNumber, encodeNumber}
@@ -20,8 +21,8 @@ use Rattle.machine.specs.Valid.{isProgramLength, isTurnSlot, sparesUnused, Vali
 use Rattle.machine.proofs.Rules.{size-facts}
 use Rattle.image.specs.Refusal.{_then_, unless, short}
 use Rattle.image.specs.Record.{recordBytes}
-use Rattle.image.specs.Image.{programLength, turnSlotAt, slotsAt, programOf, turnSlotOf, slotsPart, versionNumber, programNumber, turnSlotNumber, recordLength, span}
-use Rattle.image.specs.Image.{skip, slotsOf, slotsNumber, tailNumber, spareNumber, imageNumber, stateOf, recordStart, recordPart, slotsBytes, imageBytes}
+use Rattle.image.specs.Image.{programLength, turnSlotAt, slotsAt, programOf, turnSlotOf, slotsPart, versionNumber, programNumber, turnSlotNumber, recordLength, recordOf, span}
+use Rattle.image.specs.Image.{skip, slotsOf, slotsNumber, tailNumber, spareNumber, imageNumber, stateOf, recordStart, recordPart, fromSlot, recordExtent, slotsBytes, imageBytes}
 use Rattle.image.proofs.Refusal.{then-left, then-right, then-assoc, then-holds, Listed, listed-unless, listed-short, unless-none, short-none}
 use Rattle.image.proofs.Slots.{slots-back, slots-valid, slots-length, slots-listed, length-slotsOf, slot-at, skip-drop, record-at, slots-number, slots-forth, slots-end, slots-bytes}
 
@@ -252,12 +253,15 @@ image-listed b =
 
 -- ---- the part that holds a record
 
+-- the bytes behind the first s slots
+slots-behind : (b : List ℕ) (s : ℕ) → drop (slotsAt b + span s (slotsPart b)) b ≡ skip s (slotsPart b)
+unfolding slotsPart
+slots-behind b s = let part = drop (slotsAt b) b in sym (drop-drop (span s part) (slotsAt b) b) ∙ sym (skip-drop s part)
+
 -- where it stands: behind its length
-pub record-at-start : (b : List ℕ) (s : ℕ) → drop (recordStart b s) b ≡ drop 2 (skip s (slotsPart b))
-unfolding recordStart slotsPart
-record-at-start b s =
-    let part = drop (slotsAt b) b in
-    sym (drop-drop 2 (slotsAt b + span s part) b) ∙ ap (drop 2) (sym (drop-drop (span s part) (slotsAt b) b) ∙ sym (skip-drop s part))
+record-at-start : (b : List ℕ) (s : ℕ) → drop (recordStart b s) b ≡ drop 2 (skip s (slotsPart b))
+unfolding recordStart
+record-at-start b s = sym (drop-drop 2 (slotsAt b + span s (slotsPart b)) b) ∙ ap (drop 2) (slots-behind b s)
 
 -- it is what the slot's task is written as
 pub record-part : (b : List ℕ) (s : ℕ) → Bytes b → imageNumber b ≡ 0 → s ≤ 15 → recordPart b s ≡ recordBytes (slotAt (stateOf b .slots) s)
@@ -282,3 +286,46 @@ record-inside b s =
     split (leb s 15 && eqb (imageNumber b) 0)
     (λ e. rw e (take-length-take (recordLength (skip s (slotsPart b))) (drop (recordStart b s) b)))
     (λ e. rw e)
+
+-- where it is not empty, it ends within the image
+record-within : (b : List ℕ) (s : ℕ) → length (recordPart b s) ≢ 0 → recordStart b s + length (recordPart b s) ≤ length b
+record-within b s h =
+    let l = ap length (record-inside b s) ∙ length-take (length (recordPart b s)) (drop (recordStart b s) b) in
+    let d = length-drop (recordStart b s) b in
+    omega arith
+
+-- it is at the front of the bytes from its slot on, behind its length
+pub record-front : (b : List ℕ) (s : ℕ) → recordPart b s ≡ recordOf (fromSlot b s)
+unfolding recordPart fromSlot recordLength
+record-front b s = split (leb s 15 && eqb (imageNumber b) 0) (λ e. rw (e, record-at-start b s)) (λ e. rw e)
+
+-- and starts behind the bytes ahead of these and its length
+pub record-start : (b : List ℕ) (s : ℕ) → length (recordPart b s) ≢ 0
+    → (length (fromSlot b s) ≤ length b) × (length b - length (fromSlot b s) + 2 ≡ recordStart b s)
+unfolding recordStart recordPart fromSlot
+record-start b s h =
+    split (leb s 15 && eqb (imageNumber b) 0)
+    (λ e. rw (e, ← slots-behind b s, length-drop) (let w = record-within b s h in (omega arith, omega arith)))
+    (λ e. absurd (h (rw e)))
+
+-- its start and length, where it is empty and where it is not
+pub extent-none : (b : List ℕ) (s : ℕ) → length (recordPart b s) ≡ 0 → recordExtent b s ≡ record { start = 0; length = 0 }
+unfolding recordExtent
+extent-none b s h = rw h
+
+pub extent-some : (b : List ℕ) (s : ℕ) → length (recordPart b s) ≢ 0 → recordExtent b s ≡ record { start = recordStart b s; length = length (recordPart b s) }
+unfolding recordExtent
+extent-some b s h = rw (ne-eqb (length (recordPart b s)) 0 h)
+
+-- they tell the record, and lie within the image
+pub extent-told : (b : List ℕ) (s : ℕ) → take (recordExtent b s .length) (drop (recordExtent b s .start) b) ≡ recordPart b s
+extent-told b s =
+    split (eqb (length (recordPart b s)) 0)
+    (λ e. let z = eqb-true (length (recordPart b s)) 0 e in rw (extent-none b s z) (sym (length-nil _ z)))
+    (λ e. rw (extent-some b s (eqb-false (length (recordPart b s)) 0 e)) (sym (record-inside b s)))
+
+pub extent-within : (b : List ℕ) (s : ℕ) → recordExtent b s .start + recordExtent b s .length ≤ length b
+extent-within b s =
+    split (eqb (length (recordPart b s)) 0)
+    (λ e. rw (extent-none b s (eqb-true (length (recordPart b s)) 0 e)) (omega arith))
+    (λ e. let h = eqb-false (length (recordPart b s)) 0 e in rw (extent-some b s h) (record-within b s h))

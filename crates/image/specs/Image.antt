@@ -10,6 +10,7 @@ use Rattle.instruction.specs.declared.Decoded.the-variants.{Illegal}
 use Rattle.instruction.specs.Program.{count, decodedNumber, allLegal}
 use Rattle.machine.specs.State.{Slot, State}
 use Rattle.machine.specs.Valid.{isProgramLength, isTurnSlot, sparesUnused}
+use Rattle.image.specs.declared.Extent.{Extent}
 use Rattle.image.specs.Refusal.{_then_, unless, short}
 use Rattle.image.specs.Record.{mailboxAt, messageSize, slotOf, recordBytes, recordNumber}
 
@@ -121,6 +122,10 @@ imageNumber b =
 unfoldable pub stateOf : List ℕ → State
 stateOf b = record { program = programOf b; turnSlot = turnSlotOf b; slots = slotsOf 16 (slotsPart b) }
 
+-- the bytes from slot s on, its length first: none for a slot number above 15 or a refused image
+unfoldable pub fromSlot : List ℕ → ℕ → List ℕ
+fromSlot b s = cond (leb s 15 && eqb (imageNumber b) 0) (skip s (slotsPart b)) []
+
 -- where the record of slot s begins, behind its length
 unfoldable pub recordStart : List ℕ → ℕ → ℕ
 recordStart b s = slotsAt b + span s (slotsPart b) + 2
@@ -128,6 +133,10 @@ recordStart b s = slotsAt b + span s (slotsPart b) + 2
 -- the record of a slot: no bytes for an unused slot, a slot number above 15 or a refused image
 unfoldable pub recordPart : List ℕ → ℕ → List ℕ
 recordPart b s = cond (leb s 15 && eqb (imageNumber b) 0) (take (recordLength (skip s (slotsPart b))) (drop (recordStart b s) b)) []
+
+-- where that part stands: its start and its length, both 0 where it is empty
+unfoldable pub recordExtent : List ℕ → ℕ → Extent
+recordExtent b s = record { start = cond (eqb (length (recordPart b s)) 0) 0 (recordStart b s); length = length (recordPart b s) }
 
 -- ---- a state to bytes
 

@@ -6,7 +6,7 @@ ghost use Rattle.image.specs.Refusal.{_then_, unless};
 ghost use Rattle.image.specs.Record.{taskOf, slotOf, recordNumber};
 ghost use Rattle.image.specs.Image.{programLength, programOf, turnSlotOf, slotsPart, versionNumber, programNumber, turnSlotNumber};
 ghost use Rattle.image.specs.Image.{recordLength, recordOf, behind, skip, slotsOf, isRecordLength, slotNumber, slotsNumber};
-ghost use Rattle.image.specs.Image.{tailNumber, spareNumber, imageNumber, recordPart};
+ghost use Rattle.image.specs.Image.{tailNumber, spareNumber, imageNumber, fromSlot, recordPart, recordExtent};
 
 // ---- the layout: where the fields begin, in an image and in a record, and the size of a message
 
@@ -321,13 +321,47 @@ pub fn number(image: &[u8]) -> u8
     spare_number(image)
 }
 
+// ---- a slot's record
+
+// Where a part of an image stands.
+pub struct Extent {
+    pub start: usize,
+    pub length: usize,
+}
+
+// The bytes from a slot on: none for a slot above 15 and a refused image.
+fn from_slot(image: &[u8], slot: usize) -> &[u8]
+    ensures { λ r. ⌜ now r ≡ fromSlot (now (image .entry)) slot ⌝ }
+{
+    if (slot <= 15) & (number(image) == 0) {
+        skip(slots_part(image), slot)
+    } else {
+        wire::take(image, 0)
+    }
+}
+
 // The record of a slot as the part of the image that holds it: empty for an unused slot, a slot above 15 and a refused image.
 pub fn record(image: &[u8], slot: usize) -> &[u8]
     ensures { λ r. ⌜ now r ≡ recordPart (now (image .entry)) slot ⌝ }
 {
-    if (slot <= 15) & (number(image) == 0) {
-        front_record(skip(slots_part(image), slot))
+    front_record(from_slot(image, slot))
+}
+
+// Where that part stands: start and length both 0 where it is empty.
+pub fn record_extent(image: &[u8], slot: usize) -> Extent
+    ensures { λ r. ⌜ r ≡ recordExtent (now (image .entry)) slot ⌝ }
+{
+    let rest = from_slot(image, slot);
+    let length = front_record(rest).len();
+    if length == 0 {
+        Extent {
+            start: 0,
+            length: 0,
+        }
     } else {
-        wire::take(image, 0)
+        Extent {
+            start: image.len() - rest.len() + 2,
+            length: length,
+        }
     }
 }

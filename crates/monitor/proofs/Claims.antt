@@ -8,6 +8,7 @@ use borrow.Author.Tests.{le-leb, lt-leb}
 use lib.Dec.{leb}
 use lib.ListN.{length}
 use Rattle.wire.specs.Output.{overwrite}
+use Rattle.wire.proofs.Lists.{length-nil}
 use Rattle.machine.specs.State.{State}
 use Rattle.machine.specs.Valid.{Valid}
 use Rattle.machine.specs.Machine.{turns, view}
@@ -15,6 +16,7 @@ use Rattle.machine.proofs.Machine.{turns-valid, view-valid, view-15}
 use Rattle.image.specs.Image.{stateOf, imageBytes}
 use Rattle.image.proofs.Refusal.{unless-holds}
 use Rattle.image.proofs.Image.{accepted-length, image-listed, image-forth, record-part, record-above, record-refused, record-inside}
+use Rattle.image.proofs.Image.{extent-none, extent-some, extent-told, extent-within}
 use Rattle.monitor.specs.Calls.{rewriteCall, turnsCall, viewCall}
 use Rattle.monitor.specs.Claims.{NumbersAreListed, FirstMetIsGiven, LimitsAreRefused, CallsAreAcceptedExactly, OthersAreAccepted, CallsWriteTheirAnswer, RecordIsItsPart}
 use Rattle.monitor.specs.Claims.{ImageLengths, ReadThenWrite, WriteThenRead, ViewIsAccepted, ViewFor15, Secrecy, EqualViewsAreEqualBytes}
@@ -71,6 +73,10 @@ record-is-its-part image slot =
       bytes = λ a l. record-part image slot (a .bytes) (a .number) l;
       above = record-above image slot;
       refused = record-refused image slot;
+      told = extent-told image slot;
+      within = extent-within image slot;
+      empty = λ e. rw (extent-none image slot (ap length e)) (refl, refl);
+      start = λ h. rw (extent-some image slot (λ e. h (length-nil _ e)));
     }
 
 pub image-lengths : ImageLengths

@@ -8,13 +8,18 @@ use lib.ListN.{length}
 use Rattle.wire.specs.Output.{overwrite}
 use Rattle.machine.specs.Machine.{turns, busy, view}
 use Rattle.image.specs.Refusal.{_then_, unless}
-use Rattle.image.specs.Image.{imageNumber, stateOf, imageBytes, recordPart}
+use Rattle.image.specs.declared.Extent.{Extent}
+use Rattle.image.specs.Image.{imageNumber, stateOf, imageBytes, recordPart, recordExtent}
 use Rattle.monitor.specs.declared.Answer.{Answer}
 
 -- ---- record: the part of the image that holds a slot's record, and no number
 
 abbrev pub recordAnswer : List ℕ → ℕ → List ℕ
 recordAnswer image slot = recordPart image slot
+
+-- where that part stands in the image: its start and its length, both 0 where it is empty
+abbrev pub extentAnswer : List ℕ → ℕ → Extent
+extentAnswer image slot = recordExtent image slot
 
 -- ---- a call that writes: the number of its argument, 0 where it is within its limit; the bytes to write; the busy count
 

@@ -12,9 +12,10 @@ use Rattle.machine.specs.State.{State, slotAt}
 use Rattle.machine.specs.Valid.{Valid}
 use Rattle.image.specs.Refusal.{_then_, unless}
 use Rattle.image.specs.Record.{recordBytes}
+use Rattle.image.specs.declared.Extent.{Extent}
 use Rattle.image.specs.Image.{imageNumber, stateOf, imageBytes, recordStart}
 use Rattle.monitor.specs.declared.Answer.{Answer}
-use Rattle.monitor.specs.Calls.{recordAnswer, Call, callAnswer, callOutput, rewriteAnswer, rewriteOutput, turnsAnswer, TurnsPromise, viewBytes, viewAnswer, ViewPromise}
+use Rattle.monitor.specs.Calls.{recordAnswer, extentAnswer, Call, callAnswer, callOutput, rewriteAnswer, rewriteOutput, turnsAnswer, TurnsPromise, viewBytes, viewAnswer, ViewPromise}
 
 -- an accepted image: bytes whose number is 0
 pub record Accepted (image : List ℕ) : Type 0 where
@@ -75,14 +76,19 @@ CallsWriteTheirAnswer = (c : Call) (image out : List ℕ) → WritesItsAnswer c 
 
 -- "The reader hands back each record as the part of the caller's image that holds it. The part is the record's bytes
 -- without the 2-byte length. That part is empty for an unused slot, a slot number above 15 or a refused image."
-pub record IsRecordPart (image : List ℕ) (slot : ℕ) (part : List ℕ) : Type 0 where
+-- A start and a length tell the same part: they are those of bytes within the image, and both 0 where it is empty.
+pub record IsRecordPart (image : List ℕ) (slot : ℕ) (part : List ℕ) (extent : Extent) : Type 0 where
   pub inside : part ≡ take (length part) (drop (recordStart image slot) image)
   pub bytes : Accepted image → slot ≤ 15 → part ≡ recordBytes (slotAt (stateOf image .slots) slot)
   pub above : (slot ≤ 15 → ⊥) → part ≡ []
   pub refused : imageNumber image ≢ 0 → part ≡ []
+  pub told : take (extent .length) (drop (extent .start) image) ≡ part
+  pub within : extent .start + extent .length ≤ length image
+  pub empty : part ≡ [] → (extent .start ≡ 0) × (extent .length ≡ 0)
+  pub start : part ≢ [] → extent .start ≡ recordStart image slot
 
 abbrev pub RecordIsItsPart : Type 0
-RecordIsItsPart = (image : List ℕ) (slot : ℕ) → IsRecordPart image slot (recordAnswer image slot)
+RecordIsItsPart = (image : List ℕ) (slot : ℕ) → IsRecordPart image slot (recordAnswer image slot) (extentAnswer image slot)
 
 -- ---- demand 2: images and tasks
 

@@ -6,7 +6,7 @@ ghost use lib.Dec.{leb};
 ghost use lib.ListN.{length};
 ghost use Rattle.wire.specs.Output.{written};
 ghost use Rattle.snapshot.specs.Writing.{snapshotBytes};
-ghost use Rattle.monitor.specs.Calls.{recordAnswer, acceptance, refusal, rewriteAnswer, rewriteOutput, turnsAnswer, turnsOutput, viewAnswer, viewOutput};
+ghost use Rattle.monitor.specs.Calls.{recordAnswer, extentAnswer, acceptance, refusal, rewriteAnswer, rewriteOutput, turnsAnswer, turnsOutput, viewAnswer, viewOutput};
 
 // What a call tells: 01's number, 0 where it is accepted; the length of what it wrote; the turns that met a live task.
 pub struct Answer {
@@ -21,6 +21,13 @@ pub fn record(image: &[u8], slot: u32) -> &[u8]
     ensures { λ r. ⌜ now r ≡ recordAnswer (now (image .entry)) slot ⌝ }
 {
     image::record(image, slot as usize)
+}
+
+// Where that part stands in the image: start and length both 0 where it is empty.
+pub fn record_extent(image: &[u8], slot: u32) -> image::Extent
+    ensures { λ r. ⌜ r ≡ extentAnswer (now (image .entry)) slot ⌝ }
+{
+    image::record_extent(image, slot as usize)
 }
 
 // What a refused call tells.

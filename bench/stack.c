@@ -1,0 +1,145 @@
+/*
+ * The stack that each call takes: a thread with a stack of its own fills what is free of it with a pattern, calls, and
+ * looks how deep the pattern was overwritten. The figures count from the frame of the function that calls.
+ */
+#define _XOPEN_SOURCE 600
+#include <pthread.h>
+#include <stdint.h>
+#include <stdio.h>
+#include <stdlib.h>
+
+#include "rithennaw.h"
+
+/* The bytes below the caller's frame that are not filled, since its own code may use them: no figure is less. */
+enum { STACK = 1 << 20, PATTERN = 0xa5, MARGIN = 512 };
+
+/* The image that the calls take: sixteen live tasks that send to slot 1, each with 64 messages, four of each label. */
+static uint8_t image[RITHENNAW_IMAGE_MAX];
+static size_t image_len;
+static uint8_t out[RITHENNAW_IMAGE_MAX];
+static size_t start, length;
+static uint64_t busy;
+static unsigned number;
+
+static void put(unsigned byte)
+{
+    image[image_len++] = (uint8_t)byte;
+}
+
+static void make_image(void)
+{
+    static const uint8_t program[8] = {0x08, 1, 0, 2, 0x05, 0, 0, 0};
+    unsigned slot, i;
+    put(1);
+    put(0);
+    put(sizeof program);
+    for (i = 0; i < sizeof program; i++) {
+        put(program[i]);
+    }
+    put(0);
+    for (slot = 0; slot < 16; slot++) {
+        put((37 + 6 * 64) >> 8);
+        put((37 + 6 * 64) & 0xff);
+        for (i = 0; i < 37; i++) {
+            put(i == 0 || i == 5 + 4 * 1 + 3); /* kind 1, register 1 holds 1, all else 0 */
+        }
+        for (i = 0; i < 64; i++) {
+            put(i % 16);
+            put(slot);
+            put(0);
+            put(0);
+            put(0);
+            put(i);
+        }
+    }
+}
+
+/* ---- the calls, each with its number */
+
+static unsigned record(void)
+{
+    rithennaw_record(image, image_len, 15, &start, &length);
+    return length == 0;
+}
+
+static unsigned rewrite(void)
+{
+    return rithennaw_rewrite(image, image_len, out, sizeof out, &length);
+}
+
+static unsigned turns(void)
+{
+    return rithennaw_turns(image, image_len, 1000, out, sizeof out, &length, &busy);
+}
+
+static unsigned view(void)
+{
+    return rithennaw_view(image, image_len, 7, out, sizeof out, &length);
+}
+
+/* ---- the thread */
+
+static uint8_t *stack;
+static unsigned (*call)(void);
+static unsigned number;
+static size_t taken;
+
+static void *measured(void *unused)
+{
+    volatile uint8_t here = 0;
+    uint8_t *end = (uint8_t *)((uintptr_t)&here - MARGIN);
+    uint8_t *at;
+    for (at = stack; at < end; at++) {
+        *at = PATTERN;
+    }
+    number = call();
+    for (at = stack; at < end && *at == PATTERN; at++) {
+    }
+    taken = (uintptr_t)&here - (uintptr_t)at;
+    return unused;
+}
+
+static int run(unsigned (*one)(void))
+{
+    pthread_attr_t attributes;
+    pthread_t thread;
+    call = one;
+    return pthread_attr_init(&attributes) == 0 && pthread_attr_setstack(&attributes, stack, STACK) == 0
+           && pthread_create(&thread, &attributes, measured, NULL) == 0 && pthread_join(thread, NULL) == 0
+           && pthread_attr_destroy(&attributes) == 0;
+}
+
+int main(void)
+{
+    static const struct {
+        const char *name;
+        unsigned (*call)(void);
+    } calls[] = {{"record", record}, {"rewrite", rewrite}, {"turns", turns}, {"view", view}};
+    void *memory;
+    size_t i;
+    int status = 0;
+    make_image();
+    if (posix_memalign(&memory, 4096, STACK) != 0) {
+        fprintf(stderr, "stack.c: no memory for a stack\n");
+        return 1;
+    }
+    stack = memory;
+    for (i = 0; i < sizeof calls / sizeof calls[0]; i++) {
+        /* once ahead, so that the loader has bound the names that the call uses */
+        if (!run(calls[i].call) || !run(calls[i].call)) {
+            fprintf(stderr, "stack.c: no thread\n");
+            return 1;
+        }
+        if (number != 0) {
+            fprintf(stderr, "stack.c: rithennaw_%s was refused with %u\n", calls[i].name, number);
+            status = 1;
+        }
+        printf("rithennaw_%-8s %6zu bytes of stack\n", calls[i].name, taken);
+        if (taken >= RITHENNAW_STACK) {
+            fprintf(stderr, "stack.c: the header says less than %d\n", RITHENNAW_STACK);
+            status = 1;
+        }
+    }
+    free(memory);
+    return status;
+}

@@ -1,0 +1,64 @@
+// The C interface, which include/rithennaw.h declares: each function hands its arguments to the monitor's call, and what
+// the call tells to the caller. A `&[u8]` is a pointer and then a length.
+ghost use mathlib.Core.Path.{_≡_};
+ghost use Rattle.monitor.specs.Calls.{extentAnswer, rewriteAnswer, rewriteOutput, turnsAnswer, turnsOutput, viewAnswer, viewOutput};
+
+// Where the record of a slot stands in the image: start and length both 0 where it has none.
+#[no_mangle]
+pub extern "C" fn rithennaw_record(image: &[u8], slot: u32, start: &mut usize, length: &mut usize)
+    ensures { λ _. ⌜ (now (start .exit) ≡ extentAnswer (now (image .entry)) slot .start)
+        × (now (length .exit) ≡ extentAnswer (now (image .entry)) slot .length) ⌝ }
+{
+    let extent = monitor::record_extent(image, slot);
+    *start = extent.start;
+    *length = extent.length;
+}
+
+// Writes an image again as it was read.
+#[no_mangle]
+pub extern "C" fn rithennaw_rewrite(image: &[u8], out: &mut [u8], length: &mut usize) -> u8
+    ensures { λ r. ⌜ (r ≡ rewriteAnswer (now (image .entry)) (now (out .entry)) .number)
+        × (now (length .exit) ≡ rewriteAnswer (now (image .entry)) (now (out .entry)) .length)
+        × (now (out .exit) ≡ rewriteOutput (now (image .entry)) (now (out .entry))) ⌝ }
+{
+    let rewritten = monitor::rewrite(image, out);
+    *length = rewritten.length;
+    rewritten.number
+}
+
+// Writes the image after `count` turns.
+#[no_mangle]
+pub extern "C" fn rithennaw_turns(
+    image: &[u8],
+    count: u64,
+    out: &mut [u8],
+    length: &mut usize,
+    busy: &mut u64,
+) -> u8
+    ensures { λ r. ⌜ (r ≡ turnsAnswer count (now (image .entry)) (now (out .entry)) .number)
+        × (now (length .exit) ≡ turnsAnswer count (now (image .entry)) (now (out .entry)) .length)
+        × (now (busy .exit) ≡ turnsAnswer count (now (image .entry)) (now (out .entry)) .busy)
+        × (now (out .exit) ≡ turnsOutput count (now (image .entry)) (now (out .entry))) ⌝ }
+{
+    let turned = monitor::turns(image, count, out);
+    *length = turned.length;
+    *busy = turned.busy;
+    turned.number
+}
+
+// Writes the view for an observer.
+#[no_mangle]
+pub extern "C" fn rithennaw_view(
+    image: &[u8],
+    observer: u32,
+    out: &mut [u8],
+    length: &mut usize,
+) -> u8
+    ensures { λ r. ⌜ (r ≡ viewAnswer observer (now (image .entry)) (now (out .entry)) .number)
+        × (now (length .exit) ≡ viewAnswer observer (now (image .entry)) (now (out .entry)) .length)
+        × (now (out .exit) ≡ viewOutput observer (now (image .entry)) (now (out .entry))) ⌝ }
+{
+    let viewed = monitor::view(image, observer, out);
+    *length = viewed.length;
+    viewed.number
+}

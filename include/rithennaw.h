@@ -1,0 +1,96 @@
+/*
+ * rithennaw.h: the C interface of the monitor. ISO C99; link target/staticlib/librithennaw.a (`make lib`).
+ *
+ * Each call takes an image, the bytes of all tasks, whatever they are: it refuses what it cannot take, so the caller
+ * checks nothing beforehand. The layout of an image and the meaning of its tasks are the scope document's (01).
+ *
+ * Numbers. `rithennaw_rewrite`, `rithennaw_turns` and `rithennaw_view` return 0 (RITHENNAW_ACCEPTED), or the number of
+ * the first rule that is broken, in the order: 1 or 2, then the image from front to back, then 11, 12, 13. A refused call
+ * writes no byte of the output, and sets *length, and *busy where there is one, to 0. An accepted one writes *length bytes
+ * at the front of the output and leaves the bytes behind them as they were.
+ *
+ * Pointers. All must be valid for the call: `image` for reading image_len bytes that have been set, `out` for writing
+ * out_len bytes, `start`, `length` and `busy` for writing one number at its alignment. None may be null, also where the
+ * length beside it is 0; nothing is read or written through it then. What `out`, `start`, `length` and `busy` point to
+ * beforehand does not matter. The image, the output and the numbers pointed to must not overlap, one with another.
+ *
+ * Threads and memory. There are no globals, nothing is allocated and nothing is kept between calls. Any number of threads
+ * may call at a time, also on one image, as long as no thread writes what another call is lent. Every call returns: none
+ * waits, and none fails but by its number. A call takes less than RITHENNAW_STACK bytes of the caller's stack; that is
+ * measured (bench/stack.c, on x86-64) and not proved. Of the C library the archive uses memset, memcpy and memmove at most.
+ */
+#ifndef RITHENNAW_H
+#define RITHENNAW_H
+
+#include <stddef.h>
+#include <stdint.h>
+
+#ifdef __cplusplus
+extern "C" {
+#endif
+
+/* The shortest and the longest image. An output of RITHENNAW_IMAGE_MAX bytes is long enough for every call. */
+#define RITHENNAW_IMAGE_MIN 40
+#define RITHENNAW_IMAGE_MAX 7796
+
+/* The most turns in one call, the highest observer label, and the highest slot. */
+#define RITHENNAW_TURNS_MAX 1000000
+#define RITHENNAW_OBSERVER_MAX 15
+#define RITHENNAW_SLOT_MAX 15
+
+/* Stack that is enough for one call, in bytes. */
+#define RITHENNAW_STACK 16384
+
+/* The numbers that a call returns. */
+enum rithennaw_number {
+    RITHENNAW_ACCEPTED = 0,
+    RITHENNAW_OBSERVER = 1,        /* view: the label asked for is above 15 */
+    RITHENNAW_TURN_LIMIT = 2,      /* turns: more than 1,000,000 turns */
+    RITHENNAW_SHORT = 3,           /* the image ends before the last byte of the field or part being read */
+    RITHENNAW_VERSION = 4,         /* the first byte isn't 1 */
+    RITHENNAW_PROGRAM_LENGTH = 5,  /* no multiple of 4 from 4 to 1,024 */
+    RITHENNAW_INSTRUCTION = 6,     /* an instruction that isn't in the table, or an operand outside it */
+    RITHENNAW_TURN_SLOT = 7,       /* the turn slot is above 15 */
+    RITHENNAW_RECORD_LENGTH = 8,   /* neither 0 nor 37 + 6 * k, k at most 64 */
+    RITHENNAW_TASK_FIELD = 9,      /* kind, label or place out of range, or slot + spare above 15 */
+    RITHENNAW_MAIL = 10,           /* a message's label or sender above 15, or five or more of one label */
+    RITHENNAW_TAIL = 11,           /* bytes after slot 15 */
+    RITHENNAW_ESTATE = 12,         /* a used slot lies in another task's spare */
+    RITHENNAW_OUTPUT = 13          /* the output is shorter than the answer */
+};
+
+/*
+ * Where the record of a slot stands in the image: its bytes, without the 2-byte length ahead of them, are the *length
+ * bytes from image + *start on. Both are 0 where there is none: for an unused slot, a slot above 15 and a refused image.
+ * There is no number; `rithennaw_rewrite` tells why an image is refused.
+ */
+void rithennaw_record(const uint8_t *image, size_t image_len, uint32_t slot, size_t *start, size_t *length);
+
+/*
+ * Writes the image again as it was read: the bytes of an accepted image, *length of them.
+ * Returns 0, 3 to 12, or 13 where out_len is less than image_len.
+ */
+uint8_t rithennaw_rewrite(const uint8_t *image, size_t image_len, uint8_t *out, size_t out_len, size_t *length);
+
+/*
+ * Runs `count` turns, at most 1,000,000, and writes the image after them; 0 turns write the image as it was. *busy is the
+ * number of turns that met a live task; it depends on all tasks, so it is for the host alone and not for an observer.
+ * Returns 0, 2, 3 to 12, or 13 where the image after the turns has more than out_len bytes.
+ */
+uint8_t rithennaw_turns(const uint8_t *image, size_t image_len, uint64_t count, uint8_t *out, size_t out_len,
+                        size_t *length, uint64_t *busy);
+
+/*
+ * Writes the view for an observer, a label 0 to 15: the image in which a task whose label doesn't flow to the observer's
+ * is written as unused, and messages whose labels don't are left out of the rest. It is an accepted image itself; for
+ * label 15 it is the image.
+ * Returns 0, 1, 3 to 12, or 13 where the view has more than out_len bytes.
+ */
+uint8_t rithennaw_view(const uint8_t *image, size_t image_len, uint32_t observer, uint8_t *out, size_t out_len,
+                       size_t *length);
+
+#ifdef __cplusplus
+}
+#endif
+
+#endif

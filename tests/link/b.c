@@ -1,0 +1,282 @@
+/*
+ * The archive linked into a C program: the scope document's image B, and its examples P2, P3 and P5 through the header,
+ * every byte compared; a record's part; the refusals 1, 2, 3 and 13, which leave the output as it was.
+ */
+#include <stdint.h>
+#include <stdio.h>
+#include <string.h>
+
+#include "rithennaw.h"
+
+/* ---- checks: each is counted, and one that fails is named */
+
+static unsigned checks, faults;
+
+static void expect(int holds, const char *what)
+{
+    checks++;
+    if (!holds) {
+        faults++;
+        fprintf(stderr, "b.c: %s\n", what);
+    }
+}
+
+static void expect_number(unsigned long long is, unsigned long long should, const char *call, const char *what)
+{
+    checks++;
+    if (is != should) {
+        faults++;
+        fprintf(stderr, "b.c: %s: %s is %llu, not %llu\n", call, what, is, should);
+    }
+}
+
+/* ---- images: an array with room for the longest, and a length */
+
+struct image {
+    uint8_t bytes[RITHENNAW_IMAGE_MAX];
+    size_t length;
+};
+
+static void put(struct image *b, unsigned byte)
+{
+    b->bytes[b->length++] = (uint8_t)byte;
+}
+
+static void put_number(struct image *b, unsigned width, uint32_t x)
+{
+    while (width-- > 0) {
+        put(b, (x >> (8 * width)) & 0xff);
+    }
+}
+
+/* Where the fields of B stand: version, program length and program; turn slot; slots 0 to 15. */
+enum {
+    SEND_LABEL_AT = 3 + 2,
+    TURN_SLOT_AT = 3 + 16,
+    SLOT_0_AT = TURN_SLOT_AT + 1,
+    SLOT_5_AT = SLOT_0_AT + 2 + 37 + 4 * 2,
+    B_LENGTH = SLOT_5_AT + 2 + 37 + 10 * 2,
+    /* in a slot, behind its 2-byte length: kind, label, spare, place, registers, messages */
+    PLACE_AT = 2 + 3,
+    REGISTERS_AT = 2 + 5,
+    MAIL_AT = 2 + 37
+};
+
+static const uint8_t program[16] = {
+    0x08, 0x01, 0x00, 0x02, 0x00, 0x00, 0x00, 0x00, 0x09, 0x03, 0x04, 0x00, 0x00, 0x00, 0x00, 0x00
+};
+
+/* A live task at a place, with registers 1 and 2, without mail. */
+static void put_task(struct image *b, unsigned place, uint32_t r1, uint32_t r2)
+{
+    unsigned r;
+    put_number(b, 2, 37);
+    put(b, 1);
+    put(b, 0);
+    put(b, 0);
+    put_number(b, 2, place);
+    for (r = 0; r < 8; r++) {
+        put_number(b, 4, r == 1 ? r1 : r == 2 ? r2 : 0);
+    }
+}
+
+static void make_b(struct image *b)
+{
+    unsigned i;
+    b->length = 0;
+    put(b, 1);
+    put_number(b, 2, 16);
+    for (i = 0; i < 16; i++) {
+        put(b, program[i]);
+    }
+    put(b, 0);
+    for (i = 0; i < 16; i++) {
+        if (i == 0) {
+            put_task(b, 0, 5, 700);
+        } else if (i == 5) {
+            put_task(b, 2, 0, 0);
+        } else {
+            put_number(b, 2, 0);
+        }
+    }
+}
+
+/* One message more, behind the last byte of slot 5, which has none: its label, sender 0, value 700 (hexadecimal 02BC). */
+static void put_mail_700(struct image *b, uint8_t label)
+{
+    static const uint8_t message[6] = {0, 0, 0x00, 0x00, 0x02, 0xbc};
+    uint8_t *at = b->bytes + SLOT_5_AT + MAIL_AT;
+    memmove(at + 6, at, b->length - (SLOT_5_AT + MAIL_AT));
+    memcpy(at, message, 6);
+    at[0] = label;
+    b->bytes[SLOT_5_AT + 1] = 37 + 6;
+    b->length += 6;
+}
+
+/* ---- calls: the output is filled with a pattern first, and all of it is compared */
+
+enum { PATTERN = 0xa5, OUT_LENGTH = RITHENNAW_IMAGE_MAX };
+
+static uint8_t out[OUT_LENGTH];
+static size_t length;
+static uint64_t busy;
+
+static void fill(void)
+{
+    memset(out, PATTERN, sizeof out);
+    length = 77;
+    busy = 77;
+}
+
+/* The output holds `should` and behind it the pattern, and its length was told. */
+static void expect_written(const char *call, const struct image *should)
+{
+    size_t i;
+    expect_number(length, should->length, call, "the length");
+    for (i = 0; i < OUT_LENGTH; i++) {
+        unsigned byte = i < should->length ? should->bytes[i] : PATTERN;
+        if (out[i] != byte) {
+            expect(0, call);
+            fprintf(stderr, "b.c: %s: byte %zu of the output is %u, not %u\n", call, i, (unsigned)out[i], byte);
+            return;
+        }
+    }
+    expect(1, call);
+}
+
+static void expect_untouched(const char *call)
+{
+    static const struct image none;
+    expect_written(call, &none);
+}
+
+static void rewrites(const char *call, const uint8_t *image, size_t image_len, size_t room, unsigned number,
+                     const struct image *should)
+{
+    fill();
+    expect_number(rithennaw_rewrite(image, image_len, out, room, &length), number, call, "the number");
+    if (number == RITHENNAW_ACCEPTED) {
+        expect_written(call, should);
+    } else {
+        expect_untouched(call);
+    }
+}
+
+static void turns(const char *call, const struct image *image, uint64_t count, size_t room, unsigned number,
+                  const struct image *should, uint64_t should_busy)
+{
+    fill();
+    expect_number(rithennaw_turns(image->bytes, image->length, count, out, room, &length, &busy), number, call,
+                  "the number");
+    if (number == RITHENNAW_ACCEPTED) {
+        expect_written(call, should);
+    } else {
+        expect_untouched(call);
+    }
+    expect_number(busy, should_busy, call, "the busy count");
+}
+
+static void views(const char *call, const struct image *image, uint32_t observer, size_t room, unsigned number,
+                  const struct image *should)
+{
+    fill();
+    expect_number(rithennaw_view(image->bytes, image->length, observer, out, room, &length), number, call,
+                  "the number");
+    if (number == RITHENNAW_ACCEPTED) {
+        expect_written(call, should);
+    } else {
+        expect_untouched(call);
+    }
+}
+
+static void record(const char *call, const struct image *image, uint32_t slot, size_t should_start,
+                   size_t should_length)
+{
+    size_t start = 77;
+    length = 77;
+    rithennaw_record(image->bytes, image->length, slot, &start, &length);
+    expect_number(start, should_start, call, "the start");
+    expect_number(length, should_length, call, "the length");
+}
+
+int main(void)
+{
+    static struct image b, p2, p3, p5, p5_after, p5_for_0, cut, empty;
+
+    make_b(&b);
+    expect_number(b.length, B_LENGTH, "B", "the length");
+
+    /* P2: after 1 turn slot 0 is at place 1, and slot 5 has the message. */
+    p2 = b;
+    p2.bytes[TURN_SLOT_AT] = 1;
+    p2.bytes[SLOT_0_AT + PLACE_AT + 1] = 1;
+    put_mail_700(&p2, 0);
+
+    /* P3: after 6 turns register 3 of slot 5 is 700, register 4 is 0, it is at place 3 and has no mail. */
+    p3 = b;
+    p3.bytes[TURN_SLOT_AT] = 6;
+    p3.bytes[SLOT_0_AT + PLACE_AT + 1] = 1;
+    p3.bytes[SLOT_5_AT + PLACE_AT + 1] = 3;
+    p3.bytes[SLOT_5_AT + REGISTERS_AT + 4 * 3 + 2] = 0x02;
+    p3.bytes[SLOT_5_AT + REGISTERS_AT + 4 * 3 + 3] = 0xbc;
+
+    /* P5: B with the send's label 2. After 6 turns slot 5 is at place 2 with one message; the view for 0 has none. */
+    p5 = b;
+    p5.bytes[SEND_LABEL_AT] = 2;
+    p5_for_0 = p5;
+    p5_for_0.bytes[TURN_SLOT_AT] = 6;
+    p5_for_0.bytes[SLOT_0_AT + PLACE_AT + 1] = 1;
+    p5_after = p5_for_0;
+    put_mail_700(&p5_after, 2);
+
+    record("record of slot 0 of B", &b, 0, SLOT_0_AT + 2, 37);
+    record("record of slot 5 of B", &b, 5, SLOT_5_AT + 2, 37);
+    record("record of slot 5 of P2", &p2, 5, SLOT_5_AT + 2, 43);
+    record("record of slot 1 of B, which is unused", &b, 1, 0, 0);
+    record("record of slot 16 of B", &b, 16, 0, 0);
+    record("record of slot 2^32 - 11 of B", &b, 0xfffffff5u, 0, 0);
+
+    rewrites("rewrite of B", b.bytes, b.length, OUT_LENGTH, RITHENNAW_ACCEPTED, &b);
+    rewrites("rewrite of B into just enough", b.bytes, b.length, b.length, RITHENNAW_ACCEPTED, &b);
+    rewrites("rewrite of P2", p2.bytes, p2.length, OUT_LENGTH, RITHENNAW_ACCEPTED, &p2);
+
+    turns("B after 0 turns", &b, 0, OUT_LENGTH, RITHENNAW_ACCEPTED, &b, 0);
+    turns("B after 1 turn (P2)", &b, 1, OUT_LENGTH, RITHENNAW_ACCEPTED, &p2, 1);
+    turns("B after 1 turn into just enough", &b, 1, p2.length, RITHENNAW_ACCEPTED, &p2, 1);
+    turns("B after 6 turns (P3)", &b, 6, OUT_LENGTH, RITHENNAW_ACCEPTED, &p3, 2);
+    turns("P2 after 5 turns more", &p2, 5, OUT_LENGTH, RITHENNAW_ACCEPTED, &p3, 1);
+    turns("P5 after 6 turns", &p5, 6, OUT_LENGTH, RITHENNAW_ACCEPTED, &p5_after, 2);
+
+    views("view of P5 for 0", &p5_after, 0, OUT_LENGTH, RITHENNAW_ACCEPTED, &p5_for_0);
+    views("view of P5 for 0 into just enough", &p5_after, 0, p5_for_0.length, RITHENNAW_ACCEPTED, &p5_for_0);
+    views("view of P5 for 2", &p5_after, 2, OUT_LENGTH, RITHENNAW_ACCEPTED, &p5_after);
+    views("view of P5 for 15", &p5_after, 15, OUT_LENGTH, RITHENNAW_ACCEPTED, &p5_after);
+
+    /* 1 and 2, ahead of the image. */
+    views("view for 16", &b, 16, OUT_LENGTH, RITHENNAW_OBSERVER, NULL);
+    views("view for 256", &b, 256, OUT_LENGTH, RITHENNAW_OBSERVER, NULL);
+    views("view for 16 of no bytes", &empty, 16, 0, RITHENNAW_OBSERVER, NULL);
+    turns("1,000,001 turns", &b, RITHENNAW_TURNS_MAX + 1, OUT_LENGTH, RITHENNAW_TURN_LIMIT, NULL, 0);
+    turns("2^32 turns", &b, (uint64_t)1 << 32, OUT_LENGTH, RITHENNAW_TURN_LIMIT, NULL, 0);
+    turns("1,000,001 turns of no bytes", &empty, RITHENNAW_TURNS_MAX + 1, 0, RITHENNAW_TURN_LIMIT, NULL, 0);
+
+    /* 3: the image without its last byte, and no bytes. */
+    cut = b;
+    cut.length--;
+    record("record of slot 5 of B cut by a byte", &cut, 5, 0, 0);
+    rewrites("rewrite of B cut by a byte", cut.bytes, cut.length, OUT_LENGTH, RITHENNAW_SHORT, NULL);
+    turns("turns of B cut by a byte", &cut, 1, OUT_LENGTH, RITHENNAW_SHORT, NULL, 0);
+    views("view of B cut by a byte", &cut, 0, OUT_LENGTH, RITHENNAW_SHORT, NULL);
+    record("record of slot 0 of no bytes", &empty, 0, 0, 0);
+    rewrites("rewrite of no bytes", empty.bytes, 0, 0, RITHENNAW_SHORT, NULL);
+    turns("turns of no bytes", &empty, 1, 0, RITHENNAW_SHORT, NULL, 0);
+    views("view of no bytes", &empty, 0, 0, RITHENNAW_SHORT, NULL);
+
+    /* 13: a byte too few for the answer. */
+    rewrites("rewrite of B into a byte too few", b.bytes, b.length, b.length - 1, RITHENNAW_OUTPUT, NULL);
+    turns("B after 1 turn into a byte too few", &b, 1, p2.length - 1, RITHENNAW_OUTPUT, NULL, 0);
+    views("view of P5 for 0 into a byte too few", &p5_after, 0, p5_for_0.length - 1, RITHENNAW_OUTPUT, NULL);
+
+    printf("b.c: %u checks, %u failed\n", checks, faults);
+    return faults == 0 ? 0 : 1;
+}
