@@ -1,7 +1,7 @@
 -- What is written of the table for an image that was loaded and run: the bytes of its state in the view.
 use Prim.Native.Nat.{ℕ}
 use mathlib.Core.Path.{_≡_, refl, sym, ap, _∙_}
-use mathlib.Core.List.{List, []}
+use mathlib.Core.List.{List}
 use borrow.Author.Tests.{eqb-true, eqb-false}
 use lib.Dec.{eqb}
 use Rattle.wire.specs.Lists.{Bytes}
@@ -13,9 +13,6 @@ use Rattle.image.specs.Image.{programOf, turnSlotOf, imageNumber, stateOf, imag
 use Rattle.image.proofs.Image.{accepted-valid}
 use Rattle.table.specs.Table.{slotsIn}
 use Rattle.snapshot.specs.Writing.{stateIn, snapshotBytes}
-use Rattle.turn.specs.declared.RunAnswer.{RunAnswer}
-use Rattle.turn.specs.Answer.{runAnswer}
-use Rattle.turn.proofs.Answer.{run-accepted, run-refused}
 use Rattle.monitor.specs.Calls.{rewriteCall, rewriteAnswer, rewriteOutput, viewBytes, viewCall, viewAnswer, viewOutput}
 use Rattle.monitor.proofs.Calls.{call-refused}
 
@@ -56,11 +53,3 @@ module _ (image : List ℕ) (bytes : Bytes image) where
       let v = call-refused (viewCall 15 image) image out refl refused in
       let w = call-refused (rewriteCall image) image out refl refused in
       (v .0 ∙ sym (w .0), v .1 ∙ sym (w .1)))
-
--- ---- a run tells the image's number
-
-pub run-number : (image : List ℕ) (n : ℕ) → runAnswer image n .number ≡ imageNumber image
-run-number image n =
-    split (eqb (imageNumber image) 0)
-    (λ e. let accepted = eqb-true (imageNumber image) 0 e in ap (λ (r : RunAnswer). r .number) (run-accepted image n [] accepted .0) ∙ sym accepted)
-    (λ e. ap (λ (r : RunAnswer). r .number) (run-refused image n [] (eqb-false (imageNumber image) 0 e) .0))

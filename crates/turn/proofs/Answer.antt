@@ -1,9 +1,11 @@
 -- Laws of a run of turns, for callers: an accepted image and a refused one.
 use Prim.Native.Nat.{ℕ}
 use mathlib.Core.Logic.{_≢_}
-use mathlib.Core.Path.{_≡_, refl}
+use mathlib.Core.Path.{_≡_, refl, sym}
 use mathlib.Core.List.{List}
-use borrow.Author.Tests.{ne-eqb}
+use borrow.Author.Tests.{eqb-true, ne-eqb}
+use lib.Dec.{eqb}
+use Rattle.wire.proofs.Lists.{split}
 use Rattle.machine.specs.State.{Slot, State}
 use Rattle.machine.specs.Machine.{turns, busy}
 use Rattle.image.specs.Image.{programOf, turnSlotOf, imageNumber, stateOf}
@@ -31,3 +33,8 @@ module _ (image : List ℕ) (n : ℕ) (ss : List Slot) where
   pub run-refused : imageNumber image ≢ 0 → (runAnswer image n ≡ record { number = imageNumber image; turn = 0; busy = 0 }) × (slotsAfter image n ss ≡ ss)
   unfolding runAnswer slotsAfter
   run-refused ne = rw (ne-eqb (imageNumber image) 0 ne) (refl, refl)
+
+-- a run tells the image's number
+pub run-number : (image : List ℕ) (n : ℕ) → runAnswer image n .number ≡ imageNumber image
+unfolding runAnswer turnsTold
+run-number image n = split (eqb (imageNumber image) 0) (λ e. rw e (sym (eqb-true (imageNumber image) 0 e))) (λ e. rw e)

@@ -8,10 +8,10 @@ use Rattle.wire.specs.Lists.{IsByte}
 use Rattle.wire.proofs.Lists.{every-of}
 use Rattle.snapshot.specs.Writing.{snapshotBytes}
 use Rattle.turn.specs.declared.RunAnswer.{RunAnswer}
-use Rattle.turn.proofs.Answer.{run-accepted}
+use Rattle.turn.proofs.Answer.{run-accepted, run-number}
 use Rattle.monitor.specs.Calls.{refusal, turnsCall}
 use Rattle.monitor.proofs.Calls.{call-beyond, call-refused, call-accepted}
-use Rattle.monitor.proofs.Pipeline.{turns-written, run-number}
+use Rattle.monitor.proofs.Pipeline.{turns-written}
 use Rattle.monitor.proofs.turns.Statement.{statement}
 use Rattle.monitor.proofs.turns.Tie as tie
 
