@@ -19,11 +19,11 @@ test:
 lib:
 	@$(RT) staticlib rithennaw
 
-# The archive linked into a C and a Rust program, and both run.
+# The archive linked into C and Rust programs, which are run, and the stack of each call.
 link-test:
 	@RT='$(RT)' tests/link/run
 
-# The time of a turn beside a plain interpreter, and the stack of each call.
+# The time of a turn beside a plain interpreter.
 bench:
 	@RT='$(RT)' bench/run
 
@@ -37,7 +37,7 @@ help:
 	@echo 'make check      prove what has changed since the last check'
 	@echo 'make test       the whole gate, from nothing'
 	@echo 'make lib        the static library for C and Rust, target/staticlib/librithennaw.a'
-	@echo 'make link-test  link it into a C and a Rust program, and run both'
-	@echo 'make bench      the time of a turn and the stack of a call'
+	@echo 'make link-test  link it into C and Rust programs, run them, and measure the stack of a call'
+	@echo 'make bench      measure the time of a turn'
 	@echo 'make fmt        lay every source out'
 	@echo 'make clean      remove what was built'

@@ -17,7 +17,8 @@
  * Threads and memory. There are no globals, nothing is allocated and nothing is kept between calls. Any number of threads
  * may call at a time, also on one image, as long as no thread writes what another call is lent. Every call returns: none
  * waits, and none fails but by its number. A call takes less than RITHENNAW_STACK bytes of the caller's stack; that is
- * measured (bench/stack.c, on x86-64) and not proved. Of the C library the archive uses memset, memcpy and memmove at most.
+ * measured and not proved (`make link-test` prints it: 13,751 bytes on x86-64). Of the C library the archive uses memset,
+ * memcpy and memmove at most.
  */
 #ifndef RITHENNAW_H
 #define RITHENNAW_H

@@ -1,5 +1,5 @@
 -- Laws of turns over the table: what a live task does with its turn, one turn, and one turn more.
-use Prim.Native.Nat.{ℕ, _+_, _*_, _%_, _<_, _≤_}
+use Prim.Native.Nat.{ℕ, _+_, _*_, _%_, _≤_}
 use mathlib.Core.Logic.{_≢_}
 use mathlib.Core.Path.{_≡_, refl, sym, ap, _∙_}
 use mathlib.Core.Bool.{true, false, cond}
@@ -18,7 +18,7 @@ use Rattle.instruction.proofs.Program.{at-within, at-below}
 use Rattle.machine.specs.State.{Slot, unused, used, State, slotAt, hasLiveTask}
 use Rattle.machine.specs.Effect.{outcome}
 use Rattle.machine.specs.Turn as Turn
-use Rattle.machine.specs.Turn.{applied, successor, current}
+use Rattle.machine.specs.Turn.{applied, current}
 use Rattle.machine.specs.Valid.{Valid}
 use Rattle.machine.specs.Machine.{turns, busy}
 use Rattle.machine.proofs.Rules.{TaskFacts, SlotFacts, size-facts, slot-facts}

@@ -1,5 +1,4 @@
 -- `turn::act` meets its contract: kind 3 at place N, else the instruction that is decoded there.
-use Prim.Native.Nat.{ℕ}
 use mathlib.Core.Logic.{_≢_}
 use mathlib.Core.Path.{_≡_, sym, ap, _∙_}
 use native.Mathlib.Omega.{arith}

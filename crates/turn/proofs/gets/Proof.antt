@@ -1,11 +1,9 @@
 -- `turn::gets` meets its contract: the register, then the place.
 use mathlib.Core.Path.{refl, ap, _∙_}
-use mathlib.Core.List.{List}
-use native.Mathlib.Omega.{arith}
 use denote.Ref.{now}
-use Rattle.machine.specs.State.{Slot, withRegister, next}
+use Rattle.machine.specs.State.{withRegister, next}
 use Rattle.table.specs.Table.{slotsIn}
-use Rattle.table.specs.Change.{taskAt, change}
+use Rattle.table.specs.Change.{change}
 use Rattle.table.proofs.Change.{change-keeps, change-change}
 use Rattle.turn.proofs.gets.Statement.{statement}
 use Rattle.turn.proofs.gets.Tie as tie

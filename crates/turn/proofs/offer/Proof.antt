@@ -1,13 +1,11 @@
 -- `turn::offer` meets its contract: a live task, and then room.
-use mathlib.Core.Path.{_≡_, refl, sym, _∙_}
+use mathlib.Core.Path.{_≡_, sym, _∙_}
 use mathlib.Core.Bool.{true, false}
 use native.Mathlib.Omega.{arith}
 use borrow.Author.Tests.{lt-ltb, le-ltb, ne-eqb}
 use denote.Ref.{now}
-use lib.Dec.{eqb}
-use lib.ListN.{length}
-use Rattle.machine.specs.State.{Message, isLive}
-use Rattle.machine.specs.Turn.{hasRoom, ofLabel}
+use Rattle.machine.specs.State.{isLive}
+use Rattle.machine.specs.Turn.{hasRoom}
 use Rattle.table.specs.Table.{slotsIn}
 use Rattle.table.specs.Change.{taskAt}
 use Rattle.turn.proofs.Effects.{offer-joins, offer-drops}

@@ -1,6 +1,5 @@
 -- `turn::subtract` meets its contract.
-use Prim.Native.Nat.{ℕ, _+_, _^_, _%_}
-use mathlib.Core.Path.{ap, _∙_}
+use mathlib.Core.Path.{_∙_}
 use native.Mathlib.Omega.{arith}
 use denote.Ref.{now}
 use Rattle.table.specs.Table.{slotsIn}

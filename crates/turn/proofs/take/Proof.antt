@@ -1,10 +1,9 @@
 -- `turn::take` meets its contract: the first index at which a message is receivable.
 use Prim.Native.Nat.{ℕ}
-use mathlib.Core.Path.{_≡_, sym, ap, _∙_}
+use mathlib.Core.Path.{_≡_, ap, _∙_}
 use native.Mathlib.Omega.{arith}
 use denote.Ref.{now}
 use Rattle.label.specs.Label.{flows}
-use Rattle.machine.specs.State.{Message}
 use Rattle.machine.specs.Effect.{receivable}
 use Rattle.table.specs.Table.{slotsIn}
 use Rattle.table.specs.Change.{taskAt}

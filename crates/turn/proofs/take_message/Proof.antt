@@ -1,5 +1,4 @@
 -- `turn::take_message` meets its contract: the message goes, then the registers and the place change.
-use Prim.Native.Nat.{ℕ}
 use mathlib.Core.Path.{refl, ap, _∙_}
 use native.Mathlib.Omega.{arith}
 use denote.Ref.{now}

@@ -1,6 +1,7 @@
 /*
- * The stack that each call takes: a thread with a stack of its own fills what is free of it with a pattern, calls, and
- * looks how deep the pattern was overwritten. The figures count from the frame of the function that calls.
+ * The stack that each call takes, which must be less than the header says: a thread with a stack of its own fills what is
+ * free of it with a pattern, calls, and looks how deep the pattern was overwritten. The figures count from the frame of the
+ * function that calls.
  */
 #define _XOPEN_SOURCE 600
 #include <pthread.h>
@@ -13,13 +14,13 @@
 /* The bytes below the caller's frame that are not filled, since its own code may use them: no figure is less. */
 enum { STACK = 1 << 20, PATTERN = 0xa5, MARGIN = 512 };
 
-/* The image that the calls take: sixteen live tasks that send to slot 1, each with 64 messages, four of each label. */
+/* The image that the calls take: sixteen live tasks that take, poll and send to slot 1, each with 64 messages, four of each
+ * label. */
 static uint8_t image[RITHENNAW_IMAGE_MAX];
 static size_t image_len;
 static uint8_t out[RITHENNAW_IMAGE_MAX];
 static size_t start, length;
 static uint64_t busy;
-static unsigned number;
 
 static void put(unsigned byte)
 {
@@ -28,7 +29,8 @@ static void put(unsigned byte)
 
 static void make_image(void)
 {
-    static const uint8_t program[8] = {0x08, 1, 0, 2, 0x05, 0, 0, 0};
+    /* take 3 4, send 1 0 2, poll 3 4 0, go 0 */
+    static const uint8_t program[16] = {0x09, 3, 4, 0, 0x08, 1, 0, 2, 0x0a, 3, 4, 0, 0x05, 0, 0, 0};
     unsigned slot, i;
     put(1);
     put(0);
