@@ -164,9 +164,10 @@ fn poll(table: &mut [u32; 3328], slot: u8, a: u8, b: u8, c: u8)
     requires { ⌜ Ready slot (slotsIn (now table)) ⌝ }
     ensures { λ _. ⌜ slotsIn (now (table .exit)) ≡ executed (Poll a b c) slot (slotsIn (now (table .entry))) ⌝ }
 {
-    if take(table, slot, a, b) {} else {
-        table::set_pc(table, slot as usize, c as u32);
+    if take(table, slot, a, b) {
+        return;
     }
+    table::set_pc(table, slot as usize, c as u32);
 }
 
 // ---- new tasks

@@ -25,4 +25,4 @@ returns-2 c =
     ∙ poll-none (slotsIn (now (a .table))) (a .slot) (b .pre .here) (a .a) (a .b) (a .c) (sym (took .1) ∙ c .before .before .if1 .left)
 
 pub poll-spec : {M : Type 1} → statement M
-poll-spec = tie.close (tie.spec (λ c κs. c .before .pre) (λ c κs. tt) returns returns-2)
+poll-spec = tie.close (tie.spec (λ c κs. c .before .pre) returns (λ c κs. tt) returns-2)
