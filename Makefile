@@ -7,8 +7,8 @@ RT ?= rt
 check:
 	@$(RT) check
 
-# The gate: the layout, the names that docs/CLAIMS.md cites, the archive linked into a C and a Rust program, then every
-# proof from nothing and every must-fail edit. Its last line is rt's own count.
+# The gate: the layout, the names that docs/CLAIMS.md cites, the archive linked into C and Rust programs, then every proof
+# from nothing and every must-fail edit. Its last line is rt's own count.
 test:
 	@$(RT) fmt --check
 	@tools/check-claims

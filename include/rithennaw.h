@@ -15,10 +15,11 @@
  * beforehand does not matter. The image, the output and the numbers pointed to must not overlap, one with another.
  *
  * Threads and memory. There are no globals, nothing is allocated and nothing is kept between calls. Any number of threads
- * may call at a time, also on one image, as long as no thread writes what another call is lent. Every call returns: none
- * waits, and none fails but by its number. A call takes less than RITHENNAW_STACK bytes of the caller's stack; that is
- * measured and not proved (`make link-test` prints it: 13,751 bytes on x86-64). Of the C library the archive uses memset,
- * memcpy and memmove at most.
+ * may call at a time, also on one image, as long as no thread writes what another call is lent, or reads what it may write. Every call returns: none
+ * waits, and none fails but by its number. A call takes less than RITHENNAW_STACK bytes of the caller's stack, what the
+ * loader takes to bind memset at the first call included. That is measured on x86-64 and not proved; `make link-test`
+ * prints the figure of each call and fails where one is not less. Of the C library the archive uses memset, memcpy and
+ * memmove at most.
  */
 #ifndef RITHENNAW_H
 #define RITHENNAW_H
@@ -40,7 +41,7 @@ extern "C" {
 #define RITHENNAW_SLOT_MAX 15
 
 /* Stack that is enough for one call, in bytes. */
-#define RITHENNAW_STACK 16384
+#define RITHENNAW_STACK 32768
 
 /* The numbers that a call returns. */
 enum rithennaw_number {
@@ -63,7 +64,7 @@ enum rithennaw_number {
 /*
  * Where the record of a slot stands in the image: its bytes, without the 2-byte length ahead of them, are the *length
  * bytes from image + *start on. Both are 0 where there is none: for an unused slot, a slot above 15 and a refused image.
- * There is no number; `rithennaw_rewrite` tells why an image is refused.
+ * There is no number; `rithennaw_rewrite` with out_len 0 returns that of a refused image, and 13 for an accepted one.
  */
 void rithennaw_record(const uint8_t *image, size_t image_len, uint32_t slot, size_t *start, size_t *length);
 
@@ -75,7 +76,10 @@ uint8_t rithennaw_rewrite(const uint8_t *image, size_t image_len, uint8_t *out, 
 
 /*
  * Runs `count` turns, at most 1,000,000, and writes the image after them; 0 turns write the image as it was. *busy is the
- * number of turns that met a live task; it depends on all tasks, so it is for the host alone and not for an observer.
+ * number of turns that met a live task. A refused call has carried out no turn. The output cannot be the image; to go on,
+ * exchange the two buffers.
+ * What this call tells and writes depends on all tasks, hidden ones too: the image, *length, *busy, a 13 and the time it
+ * takes are for the host alone. An observer is given what rithennaw_view writes.
  * Returns 0, 2, 3 to 12, or 13 where the image after the turns has more than out_len bytes.
  */
 uint8_t rithennaw_turns(const uint8_t *image, size_t image_len, uint64_t count, uint8_t *out, size_t out_len,

@@ -201,7 +201,7 @@ static void record(const char *call, const struct image *image, uint32_t slot, s
 
 int main(void)
 {
-    static struct image b, p2, p3, p5, p5_after, p5_for_0, cut, empty;
+    static struct image b, p2, p3, ended, p5, p5_after, p5_for_0, cut, empty;
 
     make_b(&b);
     expect_number(b.length, B_LENGTH, "B", "the length");
@@ -219,6 +219,12 @@ int main(void)
     p3.bytes[SLOT_5_AT + PLACE_AT + 1] = 3;
     p3.bytes[SLOT_5_AT + REGISTERS_AT + 4 * 3 + 2] = 0x02;
     p3.bytes[SLOT_5_AT + REGISTERS_AT + 4 * 3 + 3] = 0xbc;
+
+    /* After 1,000,000 turns, 62,500 for each slot, both tasks have ended; 4 turns were busy. */
+    ended = p3;
+    ended.bytes[TURN_SLOT_AT] = 0;
+    ended.bytes[SLOT_0_AT + 2] = 2;
+    ended.bytes[SLOT_5_AT + 2] = 2;
 
     /* P5: B with the send's label 2. After 6 turns slot 5 is at place 2 with one message; the view for 0 has none. */
     p5 = b;
@@ -244,6 +250,7 @@ int main(void)
     turns("B after 1 turn (P2)", &b, 1, OUT_LENGTH, RITHENNAW_ACCEPTED, &p2, 1);
     turns("B after 1 turn into just enough", &b, 1, p2.length, RITHENNAW_ACCEPTED, &p2, 1);
     turns("B after 6 turns (P3)", &b, 6, OUT_LENGTH, RITHENNAW_ACCEPTED, &p3, 2);
+    turns("B after 1,000,000 turns", &b, RITHENNAW_TURNS_MAX, OUT_LENGTH, RITHENNAW_ACCEPTED, &ended, 4);
     turns("P2 after 5 turns more", &p2, 5, OUT_LENGTH, RITHENNAW_ACCEPTED, &p3, 1);
     turns("P5 after 6 turns", &p5, 6, OUT_LENGTH, RITHENNAW_ACCEPTED, &p5_after, 2);
 

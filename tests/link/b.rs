@@ -153,6 +153,11 @@ fn main() {
     p3[SLOT_5_AT + PLACE_AT + 1] = 3;
     let register_3 = SLOT_5_AT + REGISTERS_AT + 4 * 3;
     p3[register_3..register_3 + 4].copy_from_slice(&[0x00, 0x00, 0x02, 0xbc]);
+    // After 1,000,000 turns, 62,500 for each slot, both tasks have ended; 4 turns were busy.
+    let mut ended = p3.clone();
+    ended[TURN_SLOT_AT] = 0;
+    ended[SLOT_0_AT + 2] = 2;
+    ended[SLOT_5_AT + 2] = 2;
     // P5: B with the send's label 2. After 6 turns slot 5 is at place 2 with one message; the view for 0 has none.
     let p5_for_0 = sent(b(2), 6);
     let p5 = with_mail(sent(b(2), 6), 2);
@@ -173,6 +178,7 @@ fn main() {
     checks.call("B after 1 turn (P2)", ROOM, 0, &p2, 1, |out| turns(&b0, 1, out));
     checks.call("B after 1 turn into just enough", p2.len(), 0, &p2, 1, |out| turns(&b0, 1, out));
     checks.call("B after 6 turns (P3)", ROOM, 0, &p3, 2, |out| turns(&b0, 6, out));
+    checks.call("B after 1,000,000 turns", ROOM, 0, &ended, 4, |out| turns(&b0, 1_000_000, out));
     checks.call("P2 after 5 turns more", ROOM, 0, &p3, 1, |out| turns(&p2, 5, out));
     checks.call("P5 after 6 turns", ROOM, 0, &p5, 2, |out| turns(&b(2), 6, out));
 

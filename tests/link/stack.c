@@ -116,7 +116,7 @@ int main(void)
     static const struct {
         const char *name;
         unsigned (*call)(void);
-    } calls[] = {{"record", record}, {"rewrite", rewrite}, {"turns", turns}, {"view", view}};
+    } calls[] = {{"turns", turns}, {"view", view}, {"rewrite", rewrite}, {"record", record}};
     void *memory;
     size_t i;
     int status = 0;
@@ -127,19 +127,22 @@ int main(void)
     }
     stack = memory;
     for (i = 0; i < sizeof calls / sizeof calls[0]; i++) {
-        /* once ahead, so that the loader has bound the names that the call uses */
-        if (!run(calls[i].call) || !run(calls[i].call)) {
-            fprintf(stderr, "stack.c: no thread\n");
-            return 1;
-        }
-        if (number != 0) {
-            fprintf(stderr, "stack.c: rithennaw_%s was refused with %u\n", calls[i].name, number);
-            status = 1;
-        }
-        printf("rithennaw_%-8s %6zu bytes of stack\n", calls[i].name, taken);
-        if (taken >= RITHENNAW_STACK) {
-            fprintf(stderr, "stack.c: the header says less than %d\n", RITHENNAW_STACK);
-            status = 1;
+        /* the first call counts what the loader takes to bind the names that it uses, the second the call alone */
+        int again;
+        for (again = 0; again < 2; again++) {
+            if (!run(calls[i].call)) {
+                fprintf(stderr, "stack.c: no thread\n");
+                return 1;
+            }
+            if (number != 0) {
+                fprintf(stderr, "stack.c: rithennaw_%s was refused with %u\n", calls[i].name, number);
+                status = 1;
+            }
+            printf("rithennaw_%-8s %6zu bytes of stack, %s call\n", calls[i].name, taken, again ? "second" : "first");
+            if (taken < MARGIN || taken >= RITHENNAW_STACK) {
+                fprintf(stderr, "stack.c: not measured, or not less than the %d that the header says\n", RITHENNAW_STACK);
+                status = 1;
+            }
         }
     }
     free(memory);

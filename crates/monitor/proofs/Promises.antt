@@ -14,11 +14,14 @@ use denote.Ref.{now}
 use denote.Triple.Entry.{Args, Res}
 use denote.Triple.Spec.{Meets}
 use denote.Triple.Clauses.{Ended, AtExit, closing}
-use Rattle.monitor.specs.Calls.{recordAnswer, rewriteAnswer, rewriteOutput, turnsAnswer, turnsOutput, TurnsPromise, ViewPromise}
+use Rattle.monitor.specs.Calls.{recordAnswer, extentAnswer, rewriteAnswer, rewriteOutput, turnsAnswer, turnsOutput, TurnsPromise, ViewPromise}
 use Rattle.monitor.specs.Claims.{TurnCall, imageAfter, KeptPromises}
 use Rattle.monitor.proofs.record as Record
 use Rattle.monitor.proofs.record.Symbol as RecordCode
 use Rattle.monitor.proofs.record.Met as RecordMet
+use Rattle.monitor.proofs.record_extent as RecordExtent
+use Rattle.monitor.proofs.record_extent.Symbol as RecordExtentCode
+use Rattle.monitor.proofs.record_extent.Met as RecordExtentMet
 use Rattle.monitor.proofs.rewrite as Rewrite
 use Rattle.monitor.proofs.rewrite.Symbol as RewriteCode
 use Rattle.monitor.proofs.rewrite.Met as RewriteMet
@@ -40,10 +43,15 @@ Keeps M f code Q =
     → Meets 𝓤 H (𝓖 .A) (f .signature) (𝓡 .run code)
     (closing 𝓤 H (𝓖 .A) f (λ κs a. record { ghost = Unit {0}; requires = λ g. emp 𝓤; ensures = λ g r e. fact 𝓤 (Q κs a r e) }))
 
+-- each law is the function's own theorem, held to the type that is written here: with another promise, or with a
+-- precondition, the two types would differ
 module _ {M : Type 1} where
   -- a: the image, the slot
   pub record-keeps : Keeps M Record.ended RecordCode.routine (λ κs a r e. now r ≡ recordAnswer (now (a .0)) (a .1 .0))
   record-keeps = RecordMet.met
+
+  pub record-extent-keeps : Keeps M RecordExtent.ended RecordExtentCode.routine (λ κs a r e. r ≡ extentAnswer (now (a .0)) (a .1 .0))
+  record-extent-keeps = RecordExtentMet.met
 
   -- a: the image, the output
   pub rewrite-keeps : Keeps M Rewrite.ended RewriteCode.routine

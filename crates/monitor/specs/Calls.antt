@@ -90,5 +90,6 @@ viewAnswer v image out = callAnswer (viewCall v image) image out
 abbrev pub viewOutput : ℕ → List ℕ → List ℕ → List ℕ
 viewOutput v image out = callOutput (viewCall v image) image out
 
+-- the same of a view
 abbrev pub ViewPromise : ℕ → List ℕ → List ℕ → Answer → List ℕ → Type 0
 ViewPromise v image out told after = (told ≡ viewAnswer v image out) × (after ≡ viewOutput v image out)

@@ -114,7 +114,8 @@ fn offer(table: &mut [u32; 3328], to: u32, label: u8, sender: u8, value: u32)
     }
 }
 
-// Sends register c under label b to the slot numbered in register a; a label that does not admit it stops the task.
+// Sends register c under label b to the slot numbered in register a. Where the task's label does not flow to b it gets kind 4,
+// and nothing is sent.
 fn send(table: &mut [u32; 3328], slot: u8, a: u8, b: u8, c: u8)
     requires { ⌜ Ready slot (slotsIn (now table)) × (b ≤ 15) ⌝ }
     ensures { λ _. ⌜ slotsIn (now (table .exit)) ≡ executed (Send a b c) slot (slotsIn (now (table .entry))) ⌝ }
