@@ -21,8 +21,9 @@ use Rattle.machine.specs.Valid.{isProgramLength, isTurnSlot, sparesUnused, Vali
 use Rattle.machine.proofs.Rules.{size-facts}
 use Rattle.image.specs.Refusal.{_then_, unless, short}
 use Rattle.image.specs.Record.{recordBytes}
-use Rattle.image.specs.Image.{programLength, turnSlotAt, slotsAt, programOf, turnSlotOf, slotsPart, versionNumber, programNumber, turnSlotNumber, recordLength, recordOf, span}
-use Rattle.image.specs.Image.{skip, slotsOf, slotsNumber, tailNumber, spareNumber, imageNumber, stateOf, recordStart, recordPart, fromSlot, recordExtent, slotsBytes, imageBytes}
+use Rattle.image.specs.Image.{programLength, turnSlotAt, slotsAt, programOf, turnSlotOf, slotsPart, versionNumber, programNumber, turnSlotNumber}
+use Rattle.image.specs.Image.{recordLength, recordOf, span, skip, slotsOf, slotsNumber, tailNumber, spareNumber, imageNumber, stateOf}
+use Rattle.image.specs.Image.{fromSlot, recordStart, recordPart, recordExtent, slotsBytes, imageBytes}
 use Rattle.image.proofs.Refusal.{then-left, then-right, then-assoc, then-holds, Listed, listed-unless, listed-short, unless-none, short-none}
 use Rattle.image.proofs.Slots.{slots-back, slots-valid, slots-length, slots-listed, length-slotsOf, slot-at, skip-drop, record-at, slots-number, slots-forth, slots-end, slots-bytes}
 
@@ -300,7 +301,7 @@ unfolding recordPart fromSlot recordLength
 record-front b s = split (leb s 15 && eqb (imageNumber b) 0) (λ e. rw (e, record-at-start b s)) (λ e. rw e)
 
 -- and starts behind the bytes ahead of these and its length
-pub record-start : (b : List ℕ) (s : ℕ) → length (recordPart b s) ≢ 0
+record-start : (b : List ℕ) (s : ℕ) → length (recordPart b s) ≢ 0
     → (length (fromSlot b s) ≤ length b) × (length b - length (fromSlot b s) + 2 ≡ recordStart b s)
 unfolding recordStart recordPart fromSlot
 record-start b s h =
@@ -313,7 +314,8 @@ pub extent-none : (b : List ℕ) (s : ℕ) → length (recordPart b s) ≡ 0 →
 unfolding recordExtent
 extent-none b s h = rw h
 
-pub extent-some : (b : List ℕ) (s : ℕ) → length (recordPart b s) ≢ 0 → recordExtent b s ≡ record { start = recordStart b s; length = length (recordPart b s) }
+pub extent-some : (b : List ℕ) (s : ℕ) → length (recordPart b s) ≢ 0
+    → recordExtent b s ≡ record { start = recordStart b s; length = length (recordPart b s) }
 unfolding recordExtent
 extent-some b s h = rw (ne-eqb (length (recordPart b s)) 0 h)
 
@@ -329,3 +331,21 @@ extent-within b s =
     split (eqb (length (recordPart b s)) 0)
     (λ e. rw (extent-none b s (eqb-true (length (recordPart b s)) 0 e)) (omega arith))
     (λ e. let h = eqb-false (length (recordPart b s)) 0 e in rw (extent-some b s h) (record-within b s h))
+
+-- its start and length by the bytes from its slot on and the record at their front
+module _ (b : List ℕ) (s : ℕ) {rest part : List ℕ} (from : rest ≡ fromSlot b s) (front : part ≡ recordOf rest) where
+  is-part : recordPart b s ≡ part
+  is-part = rw (front, from, record-front)
+
+  pub told-none : length part ≡ 0 → record { start = 0; length = 0 } ≡ recordExtent b s
+  told-none e = sym (extent-none b s (ap length is-part ∙ e))
+
+  module _ (some : length part ≢ 0) where
+    not-empty : length (recordPart b s) ≢ 0
+    not-empty = rw is-part some
+
+    pub told-within : length rest ≤ length b
+    told-within = rw from (record-start b s not-empty .0)
+
+    pub told-some : record { start = length b - length rest + 2; length = length part } ≡ recordExtent b s
+    told-some = rw (extent-some b s not-empty, is-part, ← record-start b s not-empty .1, from)

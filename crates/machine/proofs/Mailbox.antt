@@ -87,5 +87,5 @@ mailbox-64 ms ok = omega (arith, below-all ms (ok .each), below-four 16 ms (omeg
 pub mailbox-room : (ms : List Message) → MailboxFacts ms → (l : ℕ) → l ≤ 15 → hasRoom l ms ≡ true → length ms < 64
 mailbox-room ms ok l h room =
     let m : Message = record { label = l; sender = 0; value = 0 } in
-    let one : length (ms ++ (m ∷ [])) ≤ 64 = mailbox-64 (ms ++ (m ∷ [])) (mailbox-append ms ok m (record { label = h; sender = omega arith; value = omega arith }) room) in
-    omega (arith, rw length-append at one)
+    let joined = mailbox-append ms ok m (record { label = h; sender = omega arith; value = omega arith }) room in
+    omega (arith, rw length-append at (mailbox-64 (ms ++ (m ∷ [])) joined))

@@ -84,20 +84,22 @@ module _ (c : Call) (image out : List ℕ) where
 
   -- ---- a call whose argument is beyond its limit
 
-  pub call-beyond : (n : ℕ) → c .argumentNumber ≡ suc n → (callAnswer c image out ≡ refusal (suc n)) × (callOutput c image out ≡ out)
+  pub call-beyond : (n : ℕ) → c .argumentNumber ≡ suc n → {r : Answer} → r ≡ refusal (suc n)
+      → (r ≡ callAnswer c image out) × (out ≡ callOutput c image out)
   unfolding callAnswer callOutput callNumber
-  call-beyond n beyond =
+  call-beyond n beyond told =
       let some : suc n ≢ 0 = λ e. omega arith in
-      rw (beyond, then-stop (suc n) some (imageNumber image then unless (leb (length (c .bytes)) (length out)) 13), ne-eqb (suc n) 0 some) (refl, refl)
+      rw (told, beyond, then-stop (suc n) some (imageNumber image then unless (leb (length (c .bytes)) (length out)) 13), ne-eqb (suc n) 0 some) (refl, refl)
 
   -- ---- a call whose argument is within its limit
 
   module _ (argument : c .argumentNumber ≡ 0) where
     -- its image is refused
-    pub call-refused : imageNumber image ≢ 0 → (callAnswer c image out ≡ refusal (imageNumber image)) × (callOutput c image out ≡ out)
+    pub call-refused : {r : Answer} {k : ℕ} → k ≡ imageNumber image → k ≢ 0 → r ≡ refusal k
+        → (r ≡ callAnswer c image out) × (out ≡ callOutput c image out)
     unfolding callAnswer callOutput callNumber
-    call-refused refused =
-        rw (argument, then-stop (imageNumber image) refused (unless (leb (length (c .bytes)) (length out)) 13), ne-eqb (imageNumber image) 0 refused) (refl, refl)
+    call-refused {k = k} number refused told =
+        rw (told, argument, ← number, then-stop k refused (unless (leb (length (c .bytes)) (length out)) 13), ne-eqb k 0 refused) (refl, refl)
 
     -- its image is accepted, and its bytes are written where the output has room for them
     pub call-accepted : imageNumber image ≡ 0 → {b after : List ℕ} {k : ℕ} {r : Answer} → b ≡ c .bytes → k ≡ c .busy

@@ -50,6 +50,6 @@ module _ (image : List ℕ) (bytes : Bytes image) where
       = ap imageBytes (view-15 (stateOf image) (accepted-valid image bytes (eqb-true (imageNumber image) 0 e))) in
       rw same (refl, refl))
       (λ e. let refused = eqb-false (imageNumber image) 0 e in
-      let v = call-refused (viewCall 15 image) image out refl refused in
-      let w = call-refused (rewriteCall image) image out refl refused in
-      (v .0 ∙ sym (w .0), v .1 ∙ sym (w .1)))
+      let v = call-refused (viewCall 15 image) image out refl refl refused refl in
+      let w = call-refused (rewriteCall image) image out refl refl refused refl in
+      (sym (v .0) ∙ w .0, sym (v .1) ∙ w .1))

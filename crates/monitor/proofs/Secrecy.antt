@@ -52,7 +52,7 @@ module _ (v : ℕ) (seen : v ≤ 15) where
         let out : List ℕ = replicate (k + k′) 0 in
         let l = length-replicate {A = ℕ} (k + k′) 0 in
         sym (view-shown image (e .left) out (omega arith))
-        ∙ e .shown out out (viewAnswer v image out) (viewAnswer v image′ out) (viewOutput v image out) (viewOutput v image′ out) refl (refl, refl) (refl, refl) .1
+        ∙ e .shown out out _ _ _ _ refl (refl, refl) (refl, refl) .1
         ∙ view-shown image′ (e .right) out (omega arith)
 
     module _ (a : Accepted image) (a′ : Accepted image′) (e : viewBytes v image ≡ viewBytes v image′) where

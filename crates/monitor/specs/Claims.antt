@@ -15,7 +15,8 @@ use Rattle.image.specs.Record.{recordBytes}
 use Rattle.image.specs.declared.Extent.{Extent}
 use Rattle.image.specs.Image.{imageNumber, stateOf, imageBytes, recordStart}
 use Rattle.monitor.specs.declared.Answer.{Answer}
-use Rattle.monitor.specs.Calls.{recordAnswer, extentAnswer, Call, callAnswer, callOutput, rewriteAnswer, rewriteOutput, turnsAnswer, TurnsPromise, viewBytes, viewAnswer, ViewPromise}
+use Rattle.monitor.specs.Calls.{recordAnswer, extentAnswer, Call, callAnswer, callOutput, rewriteAnswer, rewriteOutput}
+use Rattle.monitor.specs.Calls.{turnsAnswer, TurnsPromise, viewBytes, viewAnswer, ViewPromise}
 
 -- an accepted image: bytes whose number is 0
 pub record Accepted (image : List ℕ) : Type 0 where

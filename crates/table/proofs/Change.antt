@@ -44,15 +44,16 @@ change-change s f g ss = change-set s g ss (changeSlot f (slotAt ss s)) ∙ ap (
     both unused = refl
     both (used t) = refl
 
--- two changes that agree on the task that is read in the slot
-pub change-at : (ss : List Slot) (s : ℕ) (f g : Task → Task) → f (taskAt ss s) ≡ g (taskAt ss s) → change s f ss ≡ change s g ss
-change-at ss s f g h = change-same ss s f g (λ t e. rw e at h)
+-- a change of a task that is there
+pub change-here : (ss : List Slot) (s : ℕ) → slotAt ss s ≡ used (taskAt ss s) → (f : Task → Task) → change s f ss ≡ set ss s (used (f (taskAt ss s)))
+change-here ss s here f = ap (λ (x : Slot). set ss s (changeSlot f x)) here
 
 -- what a change leaves as it is in its task, it leaves in every slot
 pub change-keeps : {A : Type 0} (p : Task → A) (f : Task → Task) → ((t : Task) → p (f t) ≡ p t) → (s : ℕ) (ss : List Slot) (j : ℕ)
     → p (taskAt (change s f ss) j) ≡ p (taskAt ss j)
 change-keeps p f same s ss j =
-    getD-set-at (λ (x : Slot). p (taskOr x) ≡ p (taskAt ss j)) ss s j (changeSlot f (slotAt ss s)) unused (λ e. kept (slotAt ss s) ∙ ap (λ (i : ℕ). p (taskAt ss i)) (sym e)) refl
+    getD-set-at (λ (x : Slot). p (taskOr x) ≡ p (taskAt ss j)) ss s j (changeSlot f (slotAt ss s)) unused
+    (λ e. kept (slotAt ss s) ∙ ap (λ (i : ℕ). p (taskAt ss i)) (sym e)) refl
   where
     kept : (x : Slot) → p (taskOr (changeSlot f x)) ≡ p (taskOr x)
     kept unused = refl

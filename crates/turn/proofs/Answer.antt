@@ -10,11 +10,12 @@ use Rattle.machine.specs.State.{Slot, State}
 use Rattle.machine.specs.Machine.{turns, busy}
 use Rattle.image.specs.Image.{programOf, turnSlotOf, imageNumber, stateOf}
 use Rattle.table.specs.Table.{slotsIn}
+use Rattle.turn.specs.declared.RunAnswer.{RunAnswer}
 use Rattle.turn.specs.Answer.{stateWith, turnsTold, runAnswer, slotsAfter}
 
 -- what a loop of n turns has come to
-pub told-is : (start : State) (n : ℕ) {s count : ℕ} → s ≡ turns n start .turnSlot → count ≡ busy n start → record { number = 0; turn = s; busy = count } ≡ turnsTold n start
-unfolding turnsTold
+pub told-is : (start : State) (n : ℕ) {s count : ℕ} → s ≡ turns n start .turnSlot → count ≡ busy n start
+    → record { number = 0; turn = s; busy = count } ≡ turnsTold n start
 told-is start n e f = rw (e, f)
 
 -- a state that was loaded
@@ -25,9 +26,8 @@ state-loaded image words program s e f g = rw (e, f, g)
 
 module _ (image : List ℕ) (n : ℕ) (ss : List Slot) where
   pub run-accepted : imageNumber image ≡ 0
-      → (runAnswer image n ≡ record { number = 0; turn = turns n (stateOf image) .turnSlot; busy = busy n (stateOf image) })
-      × (slotsAfter image n ss ≡ turns n (stateOf image) .slots)
-  unfolding runAnswer turnsTold slotsAfter
+      → (runAnswer image n ≡ turnsTold n (stateOf image)) × (slotsAfter image n ss ≡ turns n (stateOf image) .slots)
+  unfolding runAnswer slotsAfter
   run-accepted e = rw e (refl, refl)
 
   pub run-refused : imageNumber image ≢ 0 → (runAnswer image n ≡ record { number = imageNumber image; turn = 0; busy = 0 }) × (slotsAfter image n ss ≡ ss)
@@ -35,6 +35,6 @@ module _ (image : List ℕ) (n : ℕ) (ss : List Slot) where
   run-refused ne = rw (ne-eqb (imageNumber image) 0 ne) (refl, refl)
 
 -- a run tells the image's number
-pub run-number : (image : List ℕ) (n : ℕ) → runAnswer image n .number ≡ imageNumber image
-unfolding runAnswer turnsTold
-run-number image n = split (eqb (imageNumber image) 0) (λ e. rw e (sym (eqb-true (imageNumber image) 0 e))) (λ e. rw e)
+pub run-number : (image : List ℕ) (n : ℕ) {r : RunAnswer} → r ≡ runAnswer image n → r .number ≡ imageNumber image
+unfolding runAnswer
+run-number image n told = rw told (split (eqb (imageNumber image) 0) (λ e. rw e (sym (eqb-true (imageNumber image) 0 e))) (λ e. rw e))

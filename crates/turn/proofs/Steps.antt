@@ -54,7 +54,8 @@ module _ (program : List ℕ) (s : ℕ) (ss : List Slot) where
 
     -- else it carries out one instruction
     module _ (before : taskAt ss s .pc ≢ count program) where
-      pub act-executes : (i : Instruction) → instructionAt program (taskAt ss s .pc) ≡ Legal i → executed i s ss ≡ applied s (outcome flows join program s (taskAt ss s)) ss
+      pub act-executes : (i : Instruction) → instructionAt program (taskAt ss s .pc) ≡ Legal i
+          → executed i s ss ≡ applied s (outcome flows join program s (taskAt ss s)) ss
       unfolding outcome executed
       act-executes i e = rw (ne-eqb (taskAt ss s .pc) (count program) before, e)
 
@@ -82,7 +83,7 @@ module _ (program : List ℕ) (s : ℕ) (ss : List Slot) where
         record {
           here = here;
           place = omega (arith, own .pc, size-facts (length program) (ok .size) .2);
-          mail = λ j. roomy j (slotAt ss j) (slot-facts n j (slotAt ss j) (ok .tasks j));
+          room = λ j. roomy j (slotAt ss j) (slot-facts n j (slotAt ss j) (ok .tasks j));
         }
       where
         roomy : (j : ℕ) (x : Slot) → SlotFacts (count program) j x → (l : ℕ) → l ≤ 15 → RoomFor l (taskOr x .mailbox)

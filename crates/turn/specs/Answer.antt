@@ -14,7 +14,7 @@ abbrev pub stateWith : List ℕ → ℕ → List ℕ → State
 stateWith program turnSlot words = record { program = program; turnSlot = turnSlot; slots = slotsIn words }
 
 -- what n turns of a state tell
-unfoldable pub turnsTold : ℕ → State → RunAnswer
+abbrev pub turnsTold : ℕ → State → RunAnswer
 turnsTold n state = record { number = 0; turn = turns n state .turnSlot; busy = busy n state }
 
 -- of an accepted image the turns of its state; of a refused one its number

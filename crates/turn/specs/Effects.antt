@@ -28,7 +28,7 @@ RoomFor l ms = hasRoom l ms ≡ true → length ms < mailboxRoom
 pub record Ready (s : ℕ) (ss : List Slot) : Type 0 where
   pub here : slotAt ss s ≡ used (taskAt ss s)
   pub place : taskAt ss s .pc < 256
-  pub mail : (j l : ℕ) → l ≤ 15 → RoomFor l (taskAt ss j .mailbox)
+  pub room : (j l : ℕ) → l ≤ 15 → RoomFor l (taskAt ss j .mailbox)
 
 -- i was decoded from four bytes of some program, so its operands are within the table
 pub record WasDecoded (i : Instruction) : Type 0 where

@@ -231,7 +231,7 @@ module _ {A : Type 0} (p : A → Bool) where
   first-without [] = refl
   first-without (x ∷ xs) = let ih = first-without xs in split (p x) (λ e. rw e) (λ e. rw (e, ih))
 
-  pub first-le : (xs : List A) → firstIndex p xs ≤ length xs
+  first-le : (xs : List A) → firstIndex p xs ≤ length xs
   first-le [] = omega arith
   first-le (x ∷ xs) = let ih = first-le xs in split (p x) (λ e. rw e (omega arith)) (λ e. rw e (omega arith))
 

@@ -1,7 +1,4 @@
 -- `image::from_slot` meets its contract: the test is that of `fromSlot`.
-use mathlib.Core.Path.{_≡_}
-use mathlib.Core.Bool.{true, _&&_}
-use lib.Dec.{leb, eqb}
 use Rattle.image.specs.Image.{fromSlot}
 use Rattle.image.proofs.from_slot.Statement.{statement}
 use Rattle.image.proofs.from_slot.Tie as tie
@@ -10,9 +7,7 @@ returns : tie.Need-returns
 unfolding fromSlot
 returns c =
     let d = c .before .before in
-    let slot = d .before .before .before .args .slot in
-    let test : (leb slot 15 && eqb (d .before .number .result) 0) ≡ true = d .if1 .taken in
-    rw (← d .before .number .ensures, test, ← c .before .slots-part .ensures) (c .skip .ensures)
+    rw (← d .before .number .ensures, d .if1 .taken, ← c .before .slots-part .ensures) (c .skip .ensures)
 
 returns-2 : tie.Need-returns-2
 unfolding fromSlot

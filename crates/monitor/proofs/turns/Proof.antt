@@ -9,7 +9,6 @@ use Rattle.wire.proofs.Lists.{every-of}
 use Rattle.snapshot.specs.Writing.{snapshotBytes}
 use Rattle.turn.specs.declared.RunAnswer.{RunAnswer}
 use Rattle.turn.proofs.Answer.{run-accepted, run-number}
-use Rattle.monitor.specs.Calls.{refusal, turnsCall}
 use Rattle.monitor.proofs.Calls.{call-beyond, call-refused, call-accepted}
 use Rattle.monitor.proofs.Pipeline.{turns-written}
 use Rattle.monitor.proofs.turns.Statement.{statement}
@@ -18,10 +17,8 @@ use Rattle.monitor.proofs.turns.Tie as tie
 -- more than 1,000,000 turns
 returns : tie.Need-returns
 returns c =
-    let a = c .before .before .before .before .args in
-    let above = lt-leb (a .count) 1000000 (omega arith) in
-    let laws = call-beyond (turnsCall (a .count) (now (a .image))) (now (a .image)) (now (a .out)) 1 (rw above) in
-    (c .refused .ensures ∙ sym (laws .0), sym (laws .1))
+    let above = lt-leb (c .before .before .before .before .args .count) 1000000 (omega arith) in
+    call-beyond _ _ _ 1 (rw above) (c .refused .ensures)
 
 -- an accepted image
 returns-2 : tie.Need-returns-2
@@ -33,22 +30,22 @@ returns-2 c =
     let image = now (a .image) in
     let words = r .last .0 in
     let bytes = every-of IsByte 0 image (λ i. k .shared-slice-known .given i .fits) in
-    let accepted = sym (run-number image (a .count)) ∙ sym (ap (λ (x : RunAnswer). x .number) (r .ensures .0)) ∙ t .if2 .taken in
+    let accepted = sym (run-number image (a .count) (r .ensures .0)) ∙ t .if2 .taken in
     let laws = run-accepted image (a .count) _ accepted in
     let told = r .ensures .0 ∙ laws .0 in
-    let same = ap (λ (x : RunAnswer). snapshotBytes words image (x .turn) 15) told ∙ turns-written image bytes words (a .count) accepted (r .ensures .1 ∙ laws .1) in
+    let same =
+    ap (λ (x : RunAnswer). snapshotBytes words image (x .turn) 15) told
+    ∙ turns-written image bytes words (a .count) accepted (r .ensures .1 ∙ laws .1) in
     let within = le-leb (a .count) 1000000 (omega arith) in
-    call-accepted (turnsCall (a .count) image) image (now (a .out)) (rw within) accepted same (ap (λ (x : RunAnswer). x .busy) told) (c .before .before .write-answer .ensures)
+    call-accepted _ _ _ (rw within) accepted same (ap (λ (x : RunAnswer). x .busy) told) (c .before .before .write-answer .ensures)
 
 -- a refused one
 returns-3 : tie.Need-returns-3
 returns-3 c =
     let a = c .before .before .before .before .before .before .before .before .args in
-    let image = now (a .image) in
-    let number = ap (λ (x : RunAnswer). x .number) (c .before .before .before .run .ensures .0) ∙ run-number image (a .count) in
+    let number = run-number (now (a .image)) (a .count) (c .before .before .before .run .ensures .0) in
     let within = le-leb (a .count) 1000000 (omega arith) in
-    let laws = call-refused (turnsCall (a .count) image) image (now (a .out)) (rw within) (λ e. c .before .if2 .left (number ∙ e)) in
-    (c .refused2 .ensures ∙ ap refusal number ∙ sym (laws .0), sym (laws .1))
+    call-refused _ _ _ (rw within) number (c .before .if2 .left) (c .refused2 .ensures)
 
 pub turns-spec : {M : Type 1} → statement M
 turns-spec =

@@ -7,7 +7,6 @@ use borrow.Author.Tests.{le-leb, lt-leb}
 use denote.Ref.{now}
 use Rattle.snapshot.specs.Writing.{snapshotBytes}
 use Rattle.snapshot.proofs.Loading.{loaded-accepted}
-use Rattle.monitor.specs.Calls.{refusal, viewCall}
 use Rattle.monitor.proofs.Calls.{call-beyond, call-refused, call-accepted}
 use Rattle.monitor.proofs.Pipeline.{view-written}
 use Rattle.monitor.proofs.view.Statement.{statement}
@@ -16,10 +15,8 @@ use Rattle.monitor.proofs.view.Tie as tie
 -- an observer above 15
 returns : tie.Need-returns
 returns c =
-    let a = c .before .before .before .before .args in
-    let above = lt-leb (a .observer) 15 (omega arith) in
-    let laws = call-beyond (viewCall (a .observer) (now (a .image))) (now (a .image)) (now (a .out)) 0 (rw above) in
-    (c .refused .ensures ∙ sym (laws .0), sym (laws .1))
+    let above = lt-leb (c .before .before .before .before .args .observer) 15 (omega arith) in
+    call-beyond _ _ _ 0 (rw above) (c .refused .ensures)
 
 -- an accepted image
 returns-2 : tie.Need-returns-2
@@ -33,16 +30,13 @@ returns-2 c =
     let loaded = l .load .ensures .1 ∙ loaded-accepted image _ accepted in
     let same = ap (λ (s : ℕ). snapshotBytes words image s (a .observer)) (t .turn-slot .ensures) ∙ view-written image words (a .observer) loaded in
     let seen = le-leb (a .observer) 15 (omega arith) in
-    call-accepted (viewCall (a .observer) image) image (now (a .out)) (rw seen) accepted same refl (c .before .before .write-answer .ensures)
+    call-accepted _ _ _ (rw seen) accepted same refl (c .before .before .write-answer .ensures)
 
 -- a refused one
 returns-3 : tie.Need-returns-3
 returns-3 c =
-    let a = c .before .before .before .before .before .before .before .args in
-    let number = c .before .before .load .ensures .0 in
-    let seen = le-leb (a .observer) 15 (omega arith) in
-    let laws = call-refused (viewCall (a .observer) (now (a .image))) (now (a .image)) (now (a .out)) (rw seen) (λ e. c .before .if2 .left (number ∙ e)) in
-    (c .refused2 .ensures ∙ ap refusal number ∙ sym (laws .0), sym (laws .1))
+    let seen = le-leb (c .before .before .before .before .before .before .before .args .observer) 15 (omega arith) in
+    call-refused _ _ _ (rw seen) (c .before .before .load .ensures .0) (c .before .if2 .left) (c .refused2 .ensures)
 
 pub view-spec : {M : Type 1} → statement M
 view-spec =

@@ -31,15 +31,18 @@ loop-again c =
     let h = c .before .before .before .loop in
     let f = c .before .before .before .before in
     let b = test-counted (c .is-label .result) in
-    (omega arith, omega (arith, b .1), rw (b .0, c .is-label .ensures) (keep-next (labelled (f .before .args .label)) (now (f .labels .result)) (h .i) (h .n) 0 (omega arith) (h .inv .2)))
+    let law = keep-next (labelled (f .before .args .label)) (now (f .labels .result)) (h .i) (h .n) 0 (omega arith) (h .inv .2) in
+    (omega arith, omega (arith, b .1), rw (b .0, c .is-label .ensures) law)
 
 returns : tie.Need-returns Inv-loop μ-loop
 returns c =
     let h = c .before .loop in
     let a = c .before .before .before .args in
-    let words = now (c .before .before .labels .result) in
+    let labels = c .before .before .labels in
+    let words = now (labels .result) in
+    let mailbox = taskAt (slotsIn (now (a .t))) (a .s) .mailbox in
     keep-done (labelled (a .label)) words (h .i) (h .n) (omega arith) (h .inv .2)
-    ∙ keep-alike (λ x. eqb x (a .label)) (λ x. x % 256) (λ m. m .label) words (taskAt (slotsIn (now (a .t))) (a .s) .mailbox) (c .before .before .labels .ensures)
+    ∙ keep-alike (λ x. eqb x (a .label)) (λ x. x % 256) (λ m. m .label) words mailbox (labels .ensures)
 
 pub count-label-spec : {M : Type 1} → statement M
 count-label-spec =

@@ -29,20 +29,22 @@ found : (c : tie.After-labels Inv-loop μ-loop)
     ≡ firstIndex (λ m. flows (m .label) (c .before .args .label)) (taskAt (slotsIn (now (c .before .args .t))) (c .before .args .s) .mailbox)
 found c =
     let a = c .before .args in
-    first-alike (λ x. flows x (a .label)) (λ x. x % 256) (λ m. m .label) (now (c .labels .result)) (taskAt (slotsIn (now (a .t))) (a .s) .mailbox) (c .labels .ensures)
+    let mailbox = taskAt (slotsIn (now (a .t))) (a .s) .mailbox in
+    first-alike (λ x. flows x (a .label)) (λ x. x % 256) (λ m. m .label) (now (c .labels .result)) mailbox (c .labels .ensures)
 
 returns : tie.Need-returns Inv-loop μ-loop
 returns c =
     let h = c .before .before .before .before .loop in
     let f = c .before .before .before .before .before in
-    first-here (flowing (f .before .args .label)) (now (f .labels .result)) (h .i) 0 (omega arith) (sym (c .before .flows .ensures) ∙ c .if1 .taken) (h .inv .1)
-    ∙ found f
+    let passes = sym (c .before .flows .ensures) ∙ c .if1 .taken in
+    first-here (flowing (f .before .args .label)) (now (f .labels .result)) (h .i) 0 (omega arith) passes (h .inv .1) ∙ found f
 
 loop-again : tie.Need-loop-again Inv-loop μ-loop
 loop-again c =
     let h = c .before .before .before .before .loop in
     let f = c .before .before .before .before .before in
-    (omega arith, first-next (flowing (f .before .args .label)) (now (f .labels .result)) (h .i) 0 (omega arith) (sym (c .before .flows .ensures) ∙ c .if1 .left) (h .inv .1))
+    let fails = sym (c .before .flows .ensures) ∙ c .if1 .left in
+    (omega arith, first-next (flowing (f .before .args .label)) (now (f .labels .result)) (h .i) 0 (omega arith) fails (h .inv .1))
 
 returns-2 : tie.Need-returns-2 Inv-loop μ-loop
 returns-2 c =
