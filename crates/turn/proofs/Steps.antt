@@ -1,15 +1,17 @@
 -- Laws of turns over the table: what a live task does with its turn, one turn, and one turn more.
-use Prim.Native.Nat.{ℕ, _+_, _*_, _%_, _≤_}
+use Prim.Native.Nat.{ℕ, zero, suc, _+_, _*_, _%_, _≤_}
 use mathlib.Core.Logic.{_≢_}
-use mathlib.Core.Path.{_≡_, refl, sym, ap, _∙_}
+use mathlib.Core.Path.{_≡_, refl, sym, ap, subst, _∙_}
 use mathlib.Core.Bool.{true, false, cond}
 use mathlib.Core.List.{List}
+use native.Mathlib.Nat.{add-zero, add-suc}
 use native.Mathlib.Numerals.{add-one}
 use native.Mathlib.Omega.{arith}
-use borrow.Author.Tests.{eq-eqb, ne-eqb}
+use borrow.Author.Tests.{leb-true, eq-eqb, ne-eqb}
 use lib.Dec.{eqb}
 use lib.ListN.{length, getD, set}
 use lib.Seq.{set-getD}
+use Rattle.wire.proofs.Lists.{split}
 use Rattle.label.specs.Label.{flows, join}
 use Rattle.instruction.specs.declared.Instruction.{Instruction}
 use Rattle.instruction.specs.declared.Decoded.the-variants.{Legal, Illegal}
@@ -23,6 +25,7 @@ use Rattle.machine.specs.Valid.{Valid}
 use Rattle.machine.specs.Machine.{turns, busy}
 use Rattle.machine.proofs.Rules.{TaskFacts, SlotFacts, size-facts, slot-facts}
 use Rattle.machine.proofs.Mailbox.{mailbox-room}
+use Rattle.machine.proofs.Machine.{turns-valid, turns-add}
 use Rattle.table.specs.Change.{taskOr, taskAt, slotWithKind}
 use Rattle.turn.specs.Effects.{executed, RoomFor, Ready, WasDecoded}
 use Rattle.turn.proofs.Effects.{kind-here}
@@ -139,3 +142,23 @@ module _ (start : State) where
 
       pub busy-next : busy (n + 1) start ≡ busy n start + cond (hasLiveTask (slotAt ss s)) 1 0
       busy-next = busy-more ∙ ap (λ (state : State). busy n start + cond (hasLiveTask (current state)) 1 0) (sym now)
+
+-- ---- turns after turns
+
+pub valid-after : (start at : State) (n : ℕ) → Valid start → at ≡ turns n start → Valid at
+valid-after start at n ok e = subst Valid (sym e) (turns-valid n start ok)
+
+pub slot-after : (start at : State) (n : ℕ) → Valid start → at ≡ turns n start → at .turnSlot ≤ 15
+slot-after start at n ok e = leb-true (at .turnSlot) 15 (valid-after start at n ok e .turnSlot)
+
+pub busy-most : (n : ℕ) (start : State) → busy n start ≤ n
+unfolding Turn.busy
+busy-most zero start = omega arith
+busy-most (suc n) start =
+    let ih = busy-most n start in
+    split (hasLiveTask (current (turns n start))) (λ e. rw e (omega (arith, ih))) (λ e. rw e (omega (arith, ih)))
+
+pub busy-add : (m n : ℕ) (start : State) → busy (m + n) start ≡ busy m start + busy n (turns m start)
+unfolding Turn.busy
+busy-add m zero start = rw add-zero (omega arith)
+busy-add m (suc n) start = rw (add-suc, busy-add m n start, turns-add m n start) (omega arith)

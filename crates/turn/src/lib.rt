@@ -1,5 +1,5 @@
 // Turns over the table: the effect of each instruction, the turn of a slot, and a run of turns.
-ghost use Prim.Native.Nat.{_≤_, _<_};
+ghost use Prim.Native.Nat.{_+_, _-_, _%_, _≤_, _<_, min};
 ghost use mathlib.Core.Path.{_≡_};
 ghost use mathlib.Core.Bool.{true};
 ghost use mathlib.Core.List.{[], _∷_};
@@ -10,7 +10,7 @@ ghost use Rattle.machine.specs.State.{used, slotAt, hasLiveTask, withRegister, 
 ghost use Rattle.machine.specs.Effect.{oldest, deliver, outcome};
 ghost use Rattle.machine.specs.Turn.{perform, applied};
 ghost use Rattle.machine.specs.Valid.{Valid};
-ghost use Rattle.machine.specs.Machine.{turns};
+ghost use Rattle.machine.specs.Machine.{turns, busy};
 ghost use Rattle.table.specs.Table.{slotsIn};
 ghost use Rattle.table.specs.Change.{taskAt, messageAt, change, withoutMessage};
 ghost use Rattle.turn.specs.Effects.{executed, RoomFor, Ready, WasDecoded, isGiven};
@@ -29,13 +29,13 @@ fn advance(table: &mut [u32; 3328], slot: u8)
     table::set_pc(table, slot as usize, pc + 1);
 }
 
-// Register a gets x, and the place goes up.
+// The place goes up, and register a gets x.
 fn gets(table: &mut [u32; 3328], slot: u8, a: u8, x: u32)
     requires { ⌜ taskAt (slotsIn (now table)) slot .pc < 256 ⌝ }
     ensures { λ _. ⌜ slotsIn (now (table .exit)) ≡ change slot (λ t. next (withRegister a x t)) (slotsIn (now (table .entry))) ⌝ }
 {
-    table::set_register(table, slot as usize, a as usize, x);
     advance(table, slot);
+    table::set_register(table, slot as usize, a as usize, x);
 }
 
 // Register a gets register b.
@@ -258,7 +258,43 @@ fn turn(table: &mut [u32; 3328], program: &[u8], slot: u8) -> bool
     }
 }
 
-// n turns of the tasks in the table, slot after slot.
+// Turns go round by round. A round goes on at a slot and ends behind slot 15, or behind the last of the turns left.
+fn round_end(slot: u8, left: u64) -> u8
+    requires { ⌜ slot ≤ 15 ⌝ }
+    ensures { λ r. ⌜ r ≡ min (slot + left) 16 ⌝ }
+{
+    if left < 16 - (slot as u64) {
+        slot + (left as u8)
+    } else {
+        16
+    }
+}
+
+// The turns of the slots from `first` up to `end`, each followed by the next: how many met a live task.
+fn round(table: &mut [u32; 3328], program: &[u8], first: u8, end: u8) -> u64
+    requires { ⌜ Valid (stateWith (now program) first (now table)) × (first ≤ end) × (end ≤ 16) ⌝ }
+    ensures { λ r. ⌜ (r ≡ busy (end - first) (stateWith (now (program .entry)) first (now (table .entry))))
+        × (stateWith (now (program .entry)) (end % 16) (now (table .exit))
+        ≡ turns (end - first) (stateWith (now (program .entry)) first (now (table .entry)))) ⌝ }
+{
+    let mut busy: u64 = 0;
+    let mut slot = first;
+    while slot < end {
+        busy += turn(table, program, slot) as u64;
+        slot += 1;
+    }
+    busy
+}
+
+// The slot behind a round: slot 15 is followed by slot 0.
+fn next_slot(end: u8) -> u8
+    requires { ⌜ end ≤ 16 ⌝ }
+    ensures { λ r. ⌜ r ≡ end % 16 ⌝ }
+{
+    if end < 16 { end } else { 0 }
+}
+
+// n turns of the tasks in the table.
 fn turns(table: &mut [u32; 3328], program: &[u8], first: u8, n: u64) -> RunAnswer
     requires { ⌜ Valid (stateWith (now program) first (now table)) ⌝ }
     ensures { λ r. ⌜ (r ≡ turnsTold n (stateWith (now (program .entry)) first (now (table .entry))))
@@ -266,11 +302,12 @@ fn turns(table: &mut [u32; 3328], program: &[u8], first: u8, n: u64) -> RunAnswe
 {
     let mut slot = first;
     let mut busy: u64 = 0;
-    let mut i: u64 = 0;
-    while i < n {
-        busy += turn(table, program, slot) as u64;
-        slot = (slot + 1) % 16;
-        i += 1;
+    let mut left = n;
+    while left > 0 {
+        let end = round_end(slot, left);
+        busy += round(table, program, slot, end);
+        left -= (end - slot) as u64;
+        slot = next_slot(end);
     }
     RunAnswer {
         number: 0,

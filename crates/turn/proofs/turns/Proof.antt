@@ -1,69 +1,90 @@
--- `turn::turns` meets its contract: after i rounds of the loop the table holds the state after i turns.
+-- `turn::turns` meets its contract: with `left` turns left the table holds the state after the others.
 use Prim.Native.Nat.{ℕ, _+_, _-_, _≤_}
-use mathlib.Core.Path.{_≡_, sym, ap, subst, _∙_}
-use mathlib.Core.Bool.{Bool, cond}
-use mir.Val.{boolByte}
+use mathlib.Core.Path.{_≡_, sym, ap, _∙_}
 use native.Mathlib.Omega.{arith}
-use borrow.Author.Tests.{leb-true}
 use denote.Ref.{now}
-use Rattle.wire.proofs.Numbers.{test-counted}
 use Rattle.machine.specs.State.{State}
-use Rattle.machine.specs.Valid.{Valid}
 use Rattle.machine.specs.Machine as Machine
-use Rattle.machine.proofs.Machine.{turns-valid}
-use Rattle.table.specs.Table.{slotsIn}
+use Rattle.machine.proofs.Machine.{turns-add}
 use Rattle.turn.specs.Answer.{stateWith}
-use Rattle.turn.proofs.Steps.{turns-none, busy-none, turns-next, busy-next}
+use Rattle.turn.proofs.Steps.{turns-none, busy-none, valid-after, slot-after, busy-most, busy-add}
 use Rattle.turn.proofs.Answer.{told-is}
 use Rattle.turn.proofs.turns.Statement.{statement}
 use Rattle.turn.proofs.turns.Tie as tie
 
 abbrev Inv-loop : tie.InvT-loop
-Inv-loop table₀ program first n slot₀ busy₀ i₀ table slot busy i =
-    (i ≤ n)
-    × (busy ≤ i)
-    × (stateWith program slot table ≡ Machine.turns i (stateWith program first table₀))
-    × (busy ≡ Machine.busy i (stateWith program first table₀))
+Inv-loop table₀ program first n slot₀ busy₀ left₀ table slot busy left =
+    (left ≤ n)
+    × (stateWith program slot table ≡ Machine.turns (n - left) (stateWith program first table₀))
+    × (busy ≡ Machine.busy (n - left) (stateWith program first table₀))
 
 abbrev μ-loop : tie.MeasureT-loop
-μ-loop table₀ program first n slot₀ busy₀ i₀ table slot busy i = n - i
+μ-loop table₀ program first n slot₀ busy₀ left₀ table slot busy left = left
 
--- the state that the loop is at is valid
-valid-at : (start at : State) (i : ℕ) → Valid start → at ≡ Machine.turns i start → Valid at
-valid-at start at i ok e = subst Valid (sym e) (turns-valid i start ok)
+loop-holds : tie.Need-loop-holds Inv-loop μ-loop
+loop-holds c = let none : c .before .args .n - c .before .args .n ≡ 0 = omega arith in rw none (omega arith, turns-none _, sym (busy-none _))
 
-turn-requires : tie.Need-turn-requires Inv-loop μ-loop
-turn-requires c κs = let h = c .before .before .loop in valid-at _ _ (h .i) (c .before .before .before .before .pre) (h .inv .2)
+round-end-requires : tie.Need-round-end-requires Inv-loop μ-loop
+round-end-requires c κs =
+    let h = c .before .loop in
+    let b = c .before .before .before in
+    slot-after _ _ (b .args .n - h .left) (b .pre) (h .inv .1)
 
-add-slot : tie.Need-add-slot Inv-loop μ-loop
-add-slot c =
+round-requires : tie.Need-round-requires Inv-loop μ-loop
+round-requires c κs =
     let h = c .before .before .before .loop in
-    let ok = valid-at _ _ (h .i) (c .before .before .before .before .before .pre) (h .inv .2) in
-    omega (arith, leb-true (h .slot) 15 (ok .turnSlot))
+    let b = c .before .before .before .before .before in
+    let i = b .args .n - h .left in
+    let slot = slot-after _ _ i (b .pre) (h .inv .1) in
+    (valid-after _ _ i (b .pre) (h .inv .1), omega (arith, c .before .round-end .ensures, slot), omega (arith, c .before .round-end .ensures))
+
+add-busy : tie.Need-add-busy Inv-loop μ-loop
+add-busy c =
+    let h = c .before .before .before .before .loop in
+    let b = c .before .before .before .before .before .before in
+    let a = b .args in
+    let end = c .before .before .round-end in
+    let met = busy-most (a .n - h .left) (stateWith (now (a .program)) (a .first) (now (a .table))) in
+    let meets = busy-most (end .result - h .slot) (stateWith (now (a .program)) (h .slot) (h .table)) in
+    omega (arith, end .ensures, h .inv .2, met, c .round .ensures .0, meets)
+
+sub-left : tie.Need-sub-left Inv-loop μ-loop
+sub-left c =
+    let h = c .before .before .before .before .loop in
+    let b = c .before .before .before .before .before .before in
+    omega (arith, c .before .before .round-end .ensures, slot-after _ _ (b .args .n - h .left) (b .pre) (h .inv .1))
+
+loop-less : tie.Need-loop-less Inv-loop μ-loop
+loop-less c =
+    let h = c .before .before .before .before .before .loop in
+    let b = c .before .before .before .before .before .before .before in
+    omega (arith, c .before .before .before .round-end .ensures, slot-after _ _ (b .args .n - h .left) (b .pre) (h .inv .1))
 
 loop-again : tie.Need-loop-again Inv-loop μ-loop
 loop-again c =
-    let h = c .before .before .before .loop in
-    let a = c .before .before .before .before .before .args in
+    let h = c .before .before .before .before .before .loop in
+    let b = c .before .before .before .before .before .before .before in
+    let a = b .args in
     let start = stateWith (now (a .program)) (a .first) (now (a .table)) in
-    let met = test-counted (c .turn .result) in
-    let r = c .turn .result in
-    let counted = met .0 ∙ ap (λ (b : Bool). cond b 1 0) (c .turn .ensures .1) in (
+    let end = c .before .before .before .round-end in
+    let k = end .result - h .slot in
+    let i = a .n - h .left in
+    let r = c .before .round in
+    let slot = slot-after _ _ i (b .pre) (h .inv .1) in
+    let more : a .n - (h .left - k) ≡ i + k = omega (arith, end .ensures, slot) in
+    rw (more, turns-add i k start, busy-add i k start, ← h .inv .1, c .next-slot .ensures) (
       omega arith,
-      omega (arith, met .1),
-      turns-next start (h .i) (now (a .program)) (h .slot) (slotsIn (h .table)) (h .inv .2) (slotsIn (c .turn .last .0)) (c .turn .ensures .0),
-      ap (λ (n : ℕ). n + boolByte r) (h .inv .3)
-          ∙ ap (λ (n : ℕ). Machine.busy (h .i) start + n) counted
-          ∙ sym (busy-next start (h .i) (now (a .program)) (h .slot) (slotsIn (h .table)) (h .inv .2)),
+      r .ensures .1,
+      ap (λ (n : ℕ). n + r .result) (h .inv .2) ∙ ap (λ (n : ℕ). Machine.busy i start + n) (r .ensures .0),
     )
 
 returns : tie.Need-returns Inv-loop μ-loop
 returns c =
     let h = c .before .loop in
     let a = c .before .before .before .args in
-    let all : h .i ≡ a .n = omega arith in
-    let state = rw all at (h .inv .2) in
-    (told-is _ (a .n) (ap (λ (s : State). s .turnSlot) state) (rw all at (h .inv .3)), ap (λ (s : State). s .slots) state)
+    let all : a .n - h .left ≡ a .n = omega arith in
+    let state = rw all at (h .inv .1) in
+    (told-is _ (a .n) (ap (λ (s : State). s .turnSlot) state) (rw all at (h .inv .2)), ap (λ (s : State). s .slots) state)
 
 pub turns-spec : {M : Type 1} → statement M
 turns-spec =
@@ -71,12 +92,14 @@ turns-spec =
     (tie.spec
     Inv-loop
     μ-loop
-    (λ c. (omega arith, omega arith, turns-none _, sym (busy-none _)))
-    turn-requires
-    (λ c. tt)
-    (λ c. omega (arith, test-counted (c .turn .result) .1))
-    add-slot
-    (λ c. omega arith)
-    (λ c. omega arith)
+    loop-holds
+    round-end-requires
+    round-requires
+    add-busy
+    sub-left
+    (λ c. omega (arith, c .before .before .round-end .ensures))
+    (λ c. omega (arith, c .before .before .round-end .ensures))
+    (λ c κs. omega (arith, c .before .before .round-end .ensures))
+    loop-less
     loop-again
     returns)
