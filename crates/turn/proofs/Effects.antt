@@ -174,13 +174,13 @@ module _ {s : ℕ} {ss : List Slot} (ready : Ready s ss) where
     unfolding execute
     sandbox-stopped few = stops (Sandbox a b c) 5 refl (rw (← has, lt-leb c spare few))
 
--- ---- a message offered to the task in a slot
+-- ---- a message delivered to a slot
 
 module _ (ss : List Slot) (to : ℕ) (m : Message) where
   -- a live task with fewer than four of its label gets it
-  pub offer-joins : {kind n : ℕ} → kind ≡ taskAt ss to .kind → kind ≡ 1 → n ≡ length (ofLabel (m .label) (taskAt ss to .mailbox)) → n < 4
+  pub deliver-joins : {kind n : ℕ} → kind ≡ taskAt ss to .kind → kind ≡ 1 → n ≡ length (ofLabel (m .label) (taskAt ss to .mailbox)) → n < 4
       → RoomFor (m .label) (taskAt ss to .mailbox) → change to (withMessage m) ss ≡ perform (deliver to m) ss
-  offer-joins {n = n} e live counted few roomy =
+  deliver-joins {n = n} e live counted few roomy =
       let room : hasRoom (m .label) (taskAt ss to .mailbox) ≡ true = rw (← counted) (lt-ltb n 4 few) in
       ap (set ss to) (joins (slotAt ss to) (sym e ∙ live) room (roomy room))
     where
@@ -197,11 +197,11 @@ module _ (ss : List Slot) (to : ℕ) (m : Message) where
       stays unused lacks = refl
       stays (used t) lacks = rw lacks
 
-  pub offer-full : {n : ℕ} → n ≡ length (ofLabel (m .label) (taskAt ss to .mailbox)) → 4 ≤ n → ss ≡ perform (deliver to m) ss
-  offer-full {n} counted full = drops (rw (← counted, le-ltb n 4 full, and-false))
+  pub deliver-full : {n : ℕ} → n ≡ length (ofLabel (m .label) (taskAt ss to .mailbox)) → 4 ≤ n → ss ≡ perform (deliver to m) ss
+  deliver-full {n} counted full = drops (rw (← counted, le-ltb n 4 full, and-false))
 
-  pub offer-stopped : {kind : ℕ} → kind ≡ taskAt ss to .kind → kind ≢ 1 → ss ≡ perform (deliver to m) ss
-  offer-stopped {kind} e stopped = drops (rw (← e, ne-eqb kind 1 stopped))
+  pub deliver-stopped : {kind : ℕ} → kind ≡ taskAt ss to .kind → kind ≢ 1 → ss ≡ perform (deliver to m) ss
+  deliver-stopped {kind} e stopped = drops (rw (← e, ne-eqb kind 1 stopped))
 
 -- ---- operands of an instruction that was decoded
 

@@ -102,7 +102,7 @@ fn identity(table: &mut [u32; 3328], slot: u8, a: u8, b: u8)
 // ---- messages
 
 // The message joins the mailbox of a live task that has fewer than four of its label; in all other cases it is dropped.
-fn offer(table: &mut [u32; 3328], to: u32, label: u8, sender: u8, value: u32)
+fn deliver(table: &mut [u32; 3328], to: u32, label: u8, sender: u8, value: u32)
     requires { ⌜ RoomFor label (taskAt (slotsIn (now table)) to .mailbox) ⌝ }
     ensures { λ _. ⌜ slotsIn (now (table .exit))
         ≡ perform (deliver to (record { label = label; sender = sender; value = value })) (slotsIn (now (table .entry))) ⌝ }
@@ -124,7 +124,7 @@ fn send(table: &mut [u32; 3328], slot: u8, a: u8, b: u8, c: u8)
         let to = table::register(table, slot as usize, a as usize);
         let value = table::register(table, slot as usize, c as usize);
         advance(table, slot);
-        offer(table, to, b, slot, value);
+        deliver(table, to, b, slot, value);
     } else {
         table::set_kind(table, slot as usize, 4);
     }

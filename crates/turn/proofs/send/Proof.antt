@@ -6,8 +6,8 @@ use Rattle.turn.proofs.Effects.{send-done, send-stopped}
 use Rattle.turn.proofs.send.Statement.{statement}
 use Rattle.turn.proofs.send.Tie as tie
 
-offer-requires : tie.Need-offer-requires
-offer-requires c κs =
+deliver-requires : tie.Need-deliver-requires
+deliver-requires c κs =
     let b = c .before .before .before .before .before .before .before .before .before .before .before in
     rw (c .before .advance .ensures, change-keeps (λ t. t .mailbox) next (λ t. refl)) (b .pre .0 .room _ _ (b .pre .1))
 
@@ -19,7 +19,7 @@ returns c =
     let own = c .before .before .before .before .before .before .before .before .before .before .label in
     let admits = c .before .before .before .before .before .before .before .before .before .flows in
     let test = c .before .before .before .before .before .before .before .before .if1 in
-    rw (c .offer .ensures, c .before .before .advance .ensures)
+    rw (c .deliver .ensures, c .before .before .advance .ensures)
     (send-done (b .pre .0) _ _ _ (own .ensures) (sym (admits .ensures) ∙ test .taken) (to .ensures) (value .ensures))
 
 returns-2 : tie.Need-returns-2
@@ -38,7 +38,7 @@ send-spec =
     (λ c κs. tt)
     (λ c κs. tt)
     (λ c κs. c .before .before .before .before .before .before .before .before .before .pre .0 .place)
-    offer-requires
+    deliver-requires
     (λ c κs. tt)
     returns
     returns-2)
