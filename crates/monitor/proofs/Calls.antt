@@ -15,7 +15,7 @@ use Rattle.image.specs.Refusal.{_then_, unless}
 use Rattle.image.specs.Image.{imageNumber}
 use Rattle.image.proofs.Refusal.{then-stop, then-left, then-right, then-holds, unless-holds, unless-none}
 use Rattle.monitor.specs.declared.Answer.{Answer}
-use Rattle.monitor.specs.Calls.{Call, callNumber, refusal, acceptance, callAnswer, callOutput}
+use Rattle.monitor.specs.Calls.{Call, callNumber, refusal, outputAnswer, callAnswer, callOutput}
 use Rattle.monitor.specs.Claims.{AcceptedExactly, WritesItsAnswer}
 
 module _ (c : Call) (image out : List ℕ) where
@@ -103,7 +103,7 @@ module _ (c : Call) (image out : List ℕ) where
 
     -- its image is accepted, and its bytes are written where the output has room for them
     pub call-accepted : imageNumber image ≡ 0 → {b after : List ℕ} {k : ℕ} {r : Answer} → b ≡ c .bytes → k ≡ c .busy
-        → (r ≡ cond (leb (length b) (length out)) (acceptance b k) (refusal 13)) × (after ≡ written b out)
+        → (r ≡ outputAnswer b k out) × (after ≡ written b out)
         → (r ≡ callAnswer c image out) × (after ≡ callOutput c image out)
     unfolding callAnswer callOutput callNumber
     call-accepted accepted {b} same counted w =

@@ -11,8 +11,8 @@ use Rattle.machine.specs.Machine.{turns, view}
 use Rattle.machine.proofs.Machine.{turns-valid, turns-program, view-15}
 use Rattle.image.specs.Image.{programOf, turnSlotOf, imageNumber, stateOf, imageBytes}
 use Rattle.image.proofs.Image.{accepted-valid}
-use Rattle.table.specs.Table.{slotsIn}
-use Rattle.snapshot.specs.Writing.{stateIn, snapshotBytes}
+use Rattle.table.specs.Table.{slotsIn, stateIn}
+use Rattle.snapshot.specs.Writing.{snapshotBytes}
 use Rattle.monitor.specs.Calls.{rewriteCall, rewriteAnswer, rewriteOutput, viewBytes, viewCall, viewAnswer, viewOutput}
 use Rattle.monitor.proofs.Calls.{call-refused}
 
@@ -22,7 +22,7 @@ module _ (image words : List ℕ) where
       → snapshotBytes words image (s .turnSlot) v ≡ imageBytes (view v s)
   unfolding snapshotBytes
   snapshot-is v s program slots =
-      let same : stateIn words image (s .turnSlot) ≡ s = λ i. record { program = sym program i; turnSlot = s .turnSlot; slots = slots i } in
+      let same : stateIn (programOf image) (s .turnSlot) words ≡ s = λ i. record { program = sym program i; turnSlot = s .turnSlot; slots = slots i } in
       ap (λ (r : State). imageBytes (view v r)) same
 
   -- loaded, and nothing done

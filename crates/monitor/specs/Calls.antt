@@ -39,6 +39,10 @@ refusal n = record { number = n; length = 0; busy = 0 }
 abbrev pub acceptance : List ℕ → ℕ → Answer
 acceptance bytes busy = record { number = 0; length = length bytes; busy = busy }
 
+-- of an accepted image, once the bytes to write are known: 13 where the output is shorter
+abbrev pub outputAnswer : List ℕ → ℕ → List ℕ → Answer
+outputAnswer bytes busy out = cond (leb (length bytes) (length out)) (acceptance bytes busy) (refusal 13)
+
 unfoldable pub callAnswer : Call → List ℕ → List ℕ → Answer
 callAnswer c image out =
     cond (eqb (callNumber c image out) 0)

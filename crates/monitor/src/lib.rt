@@ -1,12 +1,10 @@
 // The monitor's calls. Each takes any bytes and refuses what it cannot take; what the calls mean and what is claimed of
 // them stands in specs/.
 ghost use mathlib.Core.Path.{_≡_};
-ghost use mathlib.Core.Bool.{cond};
-ghost use lib.Dec.{leb};
-ghost use lib.ListN.{length};
 ghost use Rattle.wire.specs.Output.{written};
 ghost use Rattle.snapshot.specs.Writing.{snapshotBytes};
-ghost use Rattle.monitor.specs.Calls.{recordAnswer, extentAnswer, acceptance, refusal, rewriteAnswer, rewriteOutput, turnsAnswer, turnsOutput, viewAnswer, viewOutput};
+ghost use Rattle.monitor.specs.Calls.{recordAnswer, extentAnswer, outputAnswer, refusal};
+ghost use Rattle.monitor.specs.Calls.{rewriteAnswer, rewriteOutput, turnsAnswer, turnsOutput, viewAnswer, viewOutput};
 
 // What a call tells: 01's number, 0 where it is accepted; the length of what it wrote; the turns that met a live task.
 pub struct Answer {
@@ -51,8 +49,7 @@ fn write_answer(
     observer: u8,
     busy: u64,
 ) -> Answer
-    ensures { λ r. ⌜ (r ≡ cond (leb (length (snapshotBytes (now (table .entry)) (now (image .entry)) turn observer)) (length (now (out .entry))))
-        (acceptance (snapshotBytes (now (table .entry)) (now (image .entry)) turn observer) busy) (refusal 13))
+    ensures { λ r. ⌜ (r ≡ outputAnswer (snapshotBytes (now (table .entry)) (now (image .entry)) turn observer) busy (now (out .entry)))
         × (now (out .exit) ≡ written (snapshotBytes (now (table .entry)) (now (image .entry)) turn observer) (now (out .entry))) ⌝ }
 {
     let size = snapshot::write(out, table, image, turn, observer);

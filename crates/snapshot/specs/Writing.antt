@@ -5,20 +5,16 @@ use mathlib.Core.List.{List, [], _∷_, _++_}
 use lib.ListN.{length}
 use Rattle.wire.specs.Numbers.{encodeNumber}
 use Rattle.label.specs.Label.{flows}
-use Rattle.machine.specs.State.{Message, Task, Slot, unused, used, State}
+use Rattle.machine.specs.State.{Message, Task, Slot, unused, used}
 use Rattle.machine.specs.View.{viewTask, viewSlot}
 use Rattle.machine.specs.Machine.{view}
 use Rattle.image.specs.Record.{messageBytes}
 use Rattle.image.specs.Image.{programOf, slotBytes, imageBytes}
-use Rattle.table.specs.Table.{slotsIn}
+use Rattle.table.specs.Table.{stateIn}
 
--- the tasks in the table, with the image's program and a turn slot
-abbrev pub stateIn : List ℕ → List ℕ → ℕ → State
-stateIn words image turnSlot = record { program = programOf image; turnSlot = turnSlot; slots = slotsIn words }
-
--- the image of these tasks in the view for label v
+-- the image of the tasks in the table, with the image's program, in the view for label v
 unfoldable pub snapshotBytes : List ℕ → List ℕ → ℕ → ℕ → List ℕ
-snapshotBytes words image turnSlot v = imageBytes (view v (stateIn words image turnSlot))
+snapshotBytes words image turnSlot v = imageBytes (view v (stateIn (programOf image) turnSlot words))
 
 -- ---- its parts
 

@@ -5,7 +5,7 @@ use mathlib.Core.List.{List}
 use lib.Dec.{eqb}
 use lib.ListN.{getD, take, drop}
 use Rattle.wire.specs.Lists.{tabulate}
-use Rattle.machine.specs.State.{Message, Task, Slot, unused, used}
+use Rattle.machine.specs.State.{Message, Task, Slot, unused, used, State}
 
 -- ---- the layout of a slot's words: a word for each field, and a column of words for each field of the messages
 
@@ -79,3 +79,7 @@ held t = cond (eqb (t .kind) 0) unused (used t)
 -- slots 0 to 15 in order
 unfoldable pub slotsIn : List ℕ → List Slot
 slotsIn t = tabulate 16 (λ s. held (taskIn (window t s)))
+
+-- the tasks in the table, with a program and a turn slot
+abbrev pub stateIn : List ℕ → ℕ → List ℕ → State
+stateIn program turnSlot t = record { program = program; turnSlot = turnSlot; slots = slotsIn t }

@@ -9,9 +9,9 @@ use Rattle.wire.proofs.Lists.{split}
 use Rattle.machine.specs.State.{Slot, State}
 use Rattle.machine.specs.Machine.{turns, busy}
 use Rattle.image.specs.Image.{programOf, turnSlotOf, imageNumber, stateOf}
-use Rattle.table.specs.Table.{slotsIn}
+use Rattle.table.specs.Table.{slotsIn, stateIn}
 use Rattle.turn.specs.declared.RunAnswer.{RunAnswer}
-use Rattle.turn.specs.Answer.{stateWith, turnsTold, runAnswer, slotsAfter}
+use Rattle.turn.specs.Answer.{turnsTold, runAnswer, slotsAfter}
 
 -- what a loop of n turns has come to
 pub told-is : (start : State) (n : ℕ) {s count : ℕ} → s ≡ turns n start .turnSlot → count ≡ busy n start
@@ -20,7 +20,7 @@ told-is start n e f = rw (e, f)
 
 -- a state that was loaded
 pub state-loaded : (image words program : List ℕ) (s : ℕ) → program ≡ programOf image → s ≡ turnSlotOf image → slotsIn words ≡ stateOf image .slots
-    → stateWith program s words ≡ stateOf image
+    → stateIn program s words ≡ stateOf image
 unfolding stateOf
 state-loaded image words program s e f g = rw (e, f, g)
 

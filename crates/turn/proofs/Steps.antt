@@ -14,6 +14,7 @@ use lib.Seq.{set-getD}
 use Rattle.wire.proofs.Lists.{split}
 use Rattle.label.specs.Label.{flows, join}
 use Rattle.instruction.specs.declared.Instruction.{Instruction}
+use Rattle.instruction.specs.declared.Decoded.{Decoded}
 use Rattle.instruction.specs.declared.Decoded.the-variants.{Legal, Illegal}
 use Rattle.instruction.specs.Program.{count, instructionAt}
 use Rattle.instruction.proofs.Program.{at-within, at-below}
@@ -30,58 +31,55 @@ use Rattle.table.specs.Change.{taskOr, taskAt, slotWithKind}
 use Rattle.turn.specs.Effects.{executed, RoomFor, Ready, WasDecoded}
 use Rattle.turn.proofs.Effects.{kind-here}
 
+-- ---- what a live task does with its turn
+
 -- a live task is there
-pub live-here : (ss : List Slot) (s : ℕ) → hasLiveTask (slotAt ss s) ≡ true → slotAt ss s ≡ used (taskAt ss s)
+live-here : (ss : List Slot) (s : ℕ) → hasLiveTask (slotAt ss s) ≡ true → slotAt ss s ≡ used (taskAt ss s)
 live-here ss s = there (slotAt ss s)
   where
     there : (x : Slot) → hasLiveTask x ≡ true → x ≡ used (taskOr x)
     there unused e = cc
     there (used t) e = refl
 
--- a task is live where its kind is 1
-pub live-kind : (ss : List Slot) (s : ℕ) → hasLiveTask (slotAt ss s) ≡ eqb (taskAt ss s .kind) 1
-live-kind ss s = by-kind (slotAt ss s)
-  where
-    by-kind : (x : Slot) → hasLiveTask x ≡ eqb (taskOr x .kind) 1
-    by-kind unused = refl
-    by-kind (used t) = refl
+-- what was decoded at a place of the program
+pub was-decoded : (program : List ℕ) (pc : ℕ) {d : Decoded} (i : Instruction) → d ≡ instructionAt program pc → d ≡ Legal i → WasDecoded i
+was-decoded program pc i met is =
+    let e = sym met ∙ is in
+    record {
+      n = count program;
+      code = getD program (4 * pc) 0;
+      a = getD program (4 * pc + 1) 0;
+      b = getD program (4 * pc + 2) 0;
+      c = getD program (4 * pc + 3) 0;
+      legal = sym (at-within program pc (at-below program pc i e)) ∙ e;
+    }
 
-module _ (program : List ℕ) (s : ℕ) (ss : List Slot) where
-  -- ---- what a live task does with its turn
+-- pc: the place that was read
+module _ (program : List ℕ) (s : ℕ) (ss : List Slot) (live : hasLiveTask (slotAt ss s) ≡ true) {pc : ℕ} (place : pc ≡ taskAt ss s .pc) where
+  -- with place N it gets kind 3
+  pub act-ends : pc ≡ count program → set ss s (slotWithKind 3 (slotAt ss s)) ≡ applied s (outcome flows join program s (taskAt ss s)) ss
+  unfolding outcome
+  act-ends e = kind-here ss s (live-here ss s live) 3 refl ∙ rw (eq-eqb (taskAt ss s .pc) (count program) (sym place ∙ e))
 
-  module _ (here : slotAt ss s ≡ used (taskAt ss s)) where
-    -- with place N it gets kind 3
-    pub act-ends : taskAt ss s .pc ≡ count program → set ss s (slotWithKind 3 (slotAt ss s)) ≡ applied s (outcome flows join program s (taskAt ss s)) ss
-    unfolding outcome
-    act-ends e = kind-here ss s here 3 refl ∙ rw (eq-eqb (taskAt ss s .pc) (count program) e)
+  module _ (before : pc ≢ count program) where
+    not-ended : eqb (taskAt ss s .pc) (count program) ≡ false
+    not-ended = ne-eqb (taskAt ss s .pc) (count program) (λ e. before (place ∙ e))
 
     -- else it carries out one instruction
-    module _ (before : taskAt ss s .pc ≢ count program) where
-      pub act-executes : (i : Instruction) → instructionAt program (taskAt ss s .pc) ≡ Legal i
-          → executed i s ss ≡ applied s (outcome flows join program s (taskAt ss s)) ss
-      unfolding outcome executed
-      act-executes i e = rw (ne-eqb (taskAt ss s .pc) (count program) before, e)
+    pub act-executes : {d : Decoded} (i : Instruction) → d ≡ instructionAt program pc → d ≡ Legal i
+        → executed i s ss ≡ applied s (outcome flows join program s (taskAt ss s)) ss
+    unfolding outcome executed
+    act-executes i met is = rw (not-ended, ← place, ← met, is)
 
-      pub act-illegal : instructionAt program (taskAt ss s .pc) ≡ Illegal → ss ≡ applied s (outcome flows join program s (taskAt ss s)) ss
-      unfolding outcome
-      act-illegal e = sym (set-getD ss s unused) ∙ rw (ne-eqb (taskAt ss s .pc) (count program) before, e, here)
+    pub act-illegal : {d : Decoded} → d ≡ instructionAt program pc → d ≡ Illegal → ss ≡ applied s (outcome flows join program s (taskAt ss s)) ss
+    unfolding outcome
+    act-illegal met is = sym (set-getD ss s unused) ∙ rw (not-ended, ← place, ← met, is, live-here ss s live)
 
-  -- what was decoded at a place of the program
-  pub was-decoded : (pc : ℕ) (i : Instruction) → instructionAt program pc ≡ Legal i → WasDecoded i
-  was-decoded pc i e = record {
-    n = count program;
-    code = getD program (4 * pc) 0;
-    a = getD program (4 * pc + 1) 0;
-    b = getD program (4 * pc + 2) 0;
-    c = getD program (4 * pc + 3) 0;
-    legal = sym (at-within program pc (at-below program pc i e)) ∙ e;
-  }
-
-  module _ (ok : Valid (record { program = program; turnSlot = s; slots = ss })) where
-    -- a valid state is ready for the instruction of a task that has not come to place N
-    pub valid-ready : slotAt ss s ≡ used (taskAt ss s) → taskAt ss s .pc ≢ count program → Ready s ss
-    valid-ready here before =
+    -- a valid state is ready for it
+    pub valid-ready : Valid (record { program = program; turnSlot = s; slots = ss }) → Ready s ss
+    valid-ready ok =
         let n = count program in
+        let here = live-here ss s live in
         let own : TaskFacts n s (taskAt ss s) = rw here at (slot-facts n s (slotAt ss s) (ok .tasks s)) in
         record {
           here = here;
@@ -93,8 +91,24 @@ module _ (program : List ℕ) (s : ℕ) (ss : List Slot) where
         roomy j unused f l h room = omega arith
         roomy j (used t) f l h room = mailbox-room (t .mailbox) (f .mailbox) l h room
 
-  -- ---- one turn
+-- ---- one turn
 
+-- k: the kind that was read; a task is live where it is 1
+module _ (ss : List Slot) (s : ℕ) {k : ℕ} (kind : k ≡ taskAt ss s .kind) where
+  live-kind : hasLiveTask (slotAt ss s) ≡ eqb k 1
+  live-kind = by-kind (slotAt ss s) ∙ ap (λ (x : ℕ). eqb x 1) (sym kind)
+    where
+      by-kind : (x : Slot) → hasLiveTask x ≡ eqb (taskOr x .kind) 1
+      by-kind unused = refl
+      by-kind (used t) = refl
+
+  pub kind-live : k ≡ 1 → hasLiveTask (slotAt ss s) ≡ true
+  kind-live e = live-kind ∙ eq-eqb k 1 e
+
+  pub kind-idle : k ≢ 1 → hasLiveTask (slotAt ss s) ≡ false
+  kind-idle e = live-kind ∙ ne-eqb k 1 e
+
+module _ (program : List ℕ) (s : ℕ) (ss : List Slot) where
   pub turn-live : hasLiveTask (slotAt ss s) ≡ true
       → applied s (outcome flows join program s (taskAt ss s)) ss ≡ turns 1 (record { program = program; turnSlot = s; slots = ss }) .slots
   unfolding Turn.turns Turn.turn

@@ -6,12 +6,7 @@ use lib.Dec.{eqb}
 use Rattle.machine.specs.State.{Slot, State}
 use Rattle.machine.specs.Machine.{turns, busy}
 use Rattle.image.specs.Image.{imageNumber, stateOf}
-use Rattle.table.specs.Table.{slotsIn}
 use Rattle.turn.specs.declared.RunAnswer.{RunAnswer}
-
--- the tasks in the table, with a program and a turn slot
-abbrev pub stateWith : List ℕ → ℕ → List ℕ → State
-stateWith program turnSlot words = record { program = program; turnSlot = turnSlot; slots = slotsIn words }
 
 -- what n turns of a state tell
 abbrev pub turnsTold : ℕ → State → RunAnswer

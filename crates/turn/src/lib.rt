@@ -11,10 +11,10 @@ ghost use Rattle.machine.specs.Effect.{oldest, deliver, outcome};
 ghost use Rattle.machine.specs.Turn.{perform, applied};
 ghost use Rattle.machine.specs.Valid.{Valid};
 ghost use Rattle.machine.specs.Machine.{turns, busy};
-ghost use Rattle.table.specs.Table.{slotsIn};
+ghost use Rattle.table.specs.Table.{slotsIn, stateIn};
 ghost use Rattle.table.specs.Change.{taskAt, messageAt, change, withoutMessage};
 ghost use Rattle.turn.specs.Effects.{executed, RoomFor, Ready, WasDecoded, isGiven};
-ghost use Rattle.turn.specs.Answer.{stateWith, turnsTold, runAnswer, slotsAfter};
+ghost use Rattle.turn.specs.Answer.{turnsTold, runAnswer, slotsAfter};
 use instruction::Decoded;
 use instruction::Instruction;
 
@@ -160,7 +160,7 @@ fn take(table: &mut [u32; 3328], slot: u8, a: u8, b: u8) -> bool
     }
 }
 
-// Takes as above; with nothing receivable the place becomes c.
+// As take; with nothing receivable the place becomes c.
 fn poll(table: &mut [u32; 3328], slot: u8, a: u8, b: u8, c: u8)
     requires { ⌜ Ready slot (slotsIn (now table)) ⌝ }
     ensures { λ _. ⌜ slotsIn (now (table .exit)) ≡ executed (Poll a b c) slot (slotsIn (now (table .entry))) ⌝ }
@@ -228,7 +228,7 @@ fn execute(table: &mut [u32; 3328], slot: u8, i: Instruction)
 
 // What a live task does with its turn: with place N it gets kind 3, else it carries out one instruction.
 fn act(table: &mut [u32; 3328], program: &[u8], slot: u8)
-    requires { ⌜ Valid (stateWith (now program) slot (now table)) × (hasLiveTask (slotAt (slotsIn (now table)) slot) ≡ true) ⌝ }
+    requires { ⌜ Valid (stateIn (now program) slot (now table)) × (hasLiveTask (slotAt (slotsIn (now table)) slot) ≡ true) ⌝ }
     ensures { λ _. ⌜ slotsIn (now (table .exit))
         ≡ applied slot (outcome flows join (now (program .entry)) slot (taskAt (slotsIn (now (table .entry))) slot)) (slotsIn (now (table .entry))) ⌝ }
 {
@@ -246,8 +246,8 @@ fn act(table: &mut [u32; 3328], program: &[u8], slot: u8)
 
 // The turn of a slot: whether it met a live task.
 fn turn(table: &mut [u32; 3328], program: &[u8], slot: u8) -> bool
-    requires { ⌜ Valid (stateWith (now program) slot (now table)) ⌝ }
-    ensures { λ r. ⌜ (slotsIn (now (table .exit)) ≡ turns 1 (stateWith (now (program .entry)) slot (now (table .entry))) .slots)
+    requires { ⌜ Valid (stateIn (now program) slot (now table)) ⌝ }
+    ensures { λ r. ⌜ (slotsIn (now (table .exit)) ≡ turns 1 (stateIn (now (program .entry)) slot (now (table .entry))) .slots)
         × (r ≡ hasLiveTask (slotAt (slotsIn (now (table .entry))) slot)) ⌝ }
 {
     if table::kind(table, slot as usize) == 1 {
@@ -272,10 +272,10 @@ fn round_end(slot: u8, left: u64) -> u8
 
 // The turns of the slots from `first` up to `end`, each followed by the next: how many met a live task.
 fn round(table: &mut [u32; 3328], program: &[u8], first: u8, end: u8) -> u64
-    requires { ⌜ Valid (stateWith (now program) first (now table)) × (first ≤ end) × (end ≤ 16) ⌝ }
-    ensures { λ r. ⌜ (r ≡ busy (end - first) (stateWith (now (program .entry)) first (now (table .entry))))
-        × (stateWith (now (program .entry)) (end % 16) (now (table .exit))
-        ≡ turns (end - first) (stateWith (now (program .entry)) first (now (table .entry)))) ⌝ }
+    requires { ⌜ Valid (stateIn (now program) first (now table)) × (first ≤ end) × (end ≤ 16) ⌝ }
+    ensures { λ r. ⌜ (r ≡ busy (end - first) (stateIn (now (program .entry)) first (now (table .entry))))
+        × (stateIn (now (program .entry)) (end % 16) (now (table .exit))
+        ≡ turns (end - first) (stateIn (now (program .entry)) first (now (table .entry)))) ⌝ }
 {
     let mut busy: u64 = 0;
     let mut slot = first;
@@ -296,9 +296,9 @@ fn next_slot(end: u8) -> u8
 
 // n turns of the tasks in the table.
 fn turns(table: &mut [u32; 3328], program: &[u8], first: u8, n: u64) -> RunAnswer
-    requires { ⌜ Valid (stateWith (now program) first (now table)) ⌝ }
-    ensures { λ r. ⌜ (r ≡ turnsTold n (stateWith (now (program .entry)) first (now (table .entry))))
-        × (slotsIn (now (table .exit)) ≡ turns n (stateWith (now (program .entry)) first (now (table .entry))) .slots) ⌝ }
+    requires { ⌜ Valid (stateIn (now program) first (now table)) ⌝ }
+    ensures { λ r. ⌜ (r ≡ turnsTold n (stateIn (now (program .entry)) first (now (table .entry))))
+        × (slotsIn (now (table .exit)) ≡ turns n (stateIn (now (program .entry)) first (now (table .entry))) .slots) ⌝ }
 {
     let mut slot = first;
     let mut busy: u64 = 0;
@@ -324,7 +324,7 @@ pub struct RunAnswer {
     pub busy: u64,
 }
 
-// Loads an image, where it is accepted, and carries out n turns.
+// Loads an image, where it is accepted, and carries out n turns. Of a refused image slot and count are 0.
 pub fn run(table: &mut [u32; 3328], image: &[u8], n: u64) -> RunAnswer
     ensures { λ r. ⌜ (r ≡ runAnswer (now (image .entry)) n)
         × (slotsIn (now (table .exit)) ≡ slotsAfter (now (image .entry)) n (slotsIn (now (table .entry)))) ⌝ }

@@ -8,8 +8,7 @@ use borrow.Author.Tests.{leb-true}
 use denote.Ref.{now}
 use Rattle.wire.proofs.Numbers.{test-counted}
 use Rattle.machine.specs.Machine as Machine
-use Rattle.table.specs.Table.{slotsIn}
-use Rattle.turn.specs.Answer.{stateWith}
+use Rattle.table.specs.Table.{slotsIn, stateIn}
 use Rattle.turn.proofs.Steps.{turns-none, busy-none, turns-next, busy-next, valid-after, busy-most}
 use Rattle.turn.proofs.round.Statement.{statement}
 use Rattle.turn.proofs.round.Tie as tie
@@ -18,8 +17,8 @@ abbrev Inv-loop : tie.InvT-loop
 Inv-loop table₀ program first end busy₀ slot₀ table busy slot =
     (first ≤ slot)
     × (slot ≤ end)
-    × (stateWith program (slot % 16) table ≡ Machine.turns (slot - first) (stateWith program first table₀))
-    × (busy ≡ Machine.busy (slot - first) (stateWith program first table₀))
+    × (stateIn program (slot % 16) table ≡ Machine.turns (slot - first) (stateIn program first table₀))
+    × (busy ≡ Machine.busy (slot - first) (stateIn program first table₀))
 
 abbrev μ-loop : tie.MeasureT-loop
 μ-loop table₀ program first end busy₀ slot₀ table busy slot = end - slot
@@ -42,7 +41,7 @@ add-busy : tie.Need-add-busy Inv-loop μ-loop
 add-busy c =
     let h = c .before .before .before .loop in
     let b = c .before .before .before .before .before in
-    let start = stateWith (now (b .args .program)) (b .args .first) (now (b .args .table)) in
+    let start = stateIn (now (b .args .program)) (b .args .first) (now (b .args .table)) in
     omega (arith, b .pre .2, h .inv .1, h .inv .3, busy-most (h .slot - b .args .first) start, test-counted (c .turn .result) .1)
 
 loop-again : tie.Need-loop-again Inv-loop μ-loop
@@ -50,7 +49,7 @@ loop-again c =
     let h = c .before .before .before .loop in
     let b = c .before .before .before .before .before in
     let a = b .args in
-    let start = stateWith (now (a .program)) (a .first) (now (a .table)) in
+    let start = stateIn (now (a .program)) (a .first) (now (a .table)) in
     let i = h .slot - a .first in
     let ss = slotsIn (h .table) in
     let here : h .slot % 16 ≡ h .slot = omega (arith, b .pre .2) in

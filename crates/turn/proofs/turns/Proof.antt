@@ -6,7 +6,7 @@ use denote.Ref.{now}
 use Rattle.machine.specs.State.{State}
 use Rattle.machine.specs.Machine as Machine
 use Rattle.machine.proofs.Machine.{turns-add}
-use Rattle.turn.specs.Answer.{stateWith}
+use Rattle.table.specs.Table.{stateIn}
 use Rattle.turn.proofs.Steps.{turns-none, busy-none, valid-after, slot-after, busy-most, busy-add}
 use Rattle.turn.proofs.Answer.{told-is}
 use Rattle.turn.proofs.turns.Statement.{statement}
@@ -15,8 +15,8 @@ use Rattle.turn.proofs.turns.Tie as tie
 abbrev Inv-loop : tie.InvT-loop
 Inv-loop table₀ program first n slot₀ busy₀ left₀ table slot busy left =
     (left ≤ n)
-    × (stateWith program slot table ≡ Machine.turns (n - left) (stateWith program first table₀))
-    × (busy ≡ Machine.busy (n - left) (stateWith program first table₀))
+    × (stateIn program slot table ≡ Machine.turns (n - left) (stateIn program first table₀))
+    × (busy ≡ Machine.busy (n - left) (stateIn program first table₀))
 
 abbrev μ-loop : tie.MeasureT-loop
 μ-loop table₀ program first n slot₀ busy₀ left₀ table slot busy left = left
@@ -44,8 +44,8 @@ add-busy c =
     let b = c .before .before .before .before .before .before in
     let a = b .args in
     let end = c .before .before .round-end in
-    let met = busy-most (a .n - h .left) (stateWith (now (a .program)) (a .first) (now (a .table))) in
-    let meets = busy-most (end .result - h .slot) (stateWith (now (a .program)) (h .slot) (h .table)) in
+    let met = busy-most (a .n - h .left) (stateIn (now (a .program)) (a .first) (now (a .table))) in
+    let meets = busy-most (end .result - h .slot) (stateIn (now (a .program)) (h .slot) (h .table)) in
     omega (arith, end .ensures, h .inv .2, met, c .round .ensures .0, meets)
 
 sub-left : tie.Need-sub-left Inv-loop μ-loop
@@ -65,7 +65,7 @@ loop-again c =
     let h = c .before .before .before .before .before .loop in
     let b = c .before .before .before .before .before .before .before in
     let a = b .args in
-    let start = stateWith (now (a .program)) (a .first) (now (a .table)) in
+    let start = stateIn (now (a .program)) (a .first) (now (a .table)) in
     let end = c .before .before .before .round-end in
     let k = end .result - h .slot in
     let i = a .n - h .left in
