@@ -1,14 +1,15 @@
 -- The machine's laws where labels are masks.
-use Prim.Native.Nat.{ℕ, _+_}
+use Prim.Native.Nat.{ℕ, _+_, _≤_}
 use mathlib.Core.Path.{_≡_}
-use mathlib.Core.Bool.{true}
+use mathlib.Core.Bool.{true, cond}
 use Rattle.wire.proofs.Lists.{every-weaken}
 use Rattle.label.specs.Label.{flows, join}
 use Rattle.label.proofs.Order.{DownClosed, label-order, flows-15}
-use Rattle.machine.specs.State.{Message, Slot, unused, used, State, slotAt}
+use Rattle.machine.specs.State.{Message, Slot, unused, used, State, slotAt, hasLiveTask}
+use Rattle.machine.specs.Turn.{current, turn}
 use Rattle.machine.specs.Valid.{Valid}
 use Rattle.machine.proofs.Rules.{MessageFacts, SlotFacts, slot-facts}
-use Rattle.machine.specs.Machine.{turns, view}
+use Rattle.machine.specs.Machine.{turns, busy, view}
 use Rattle.machine.proofs.Valid as Valid
 use Rattle.machine.proofs.View.{AllSeen, view-all}
 use Rattle.machine.proofs.Turn as Turn
@@ -31,10 +32,30 @@ view-valid v = Valid.view-valid (λ l. flows l v)
 pub turns-program : (n : ℕ) (s : State) → turns n s .program ≡ s .program
 turns-program = Kept.turns-program flows join
 
--- ---- views and turns
+-- ---- turns one after another, and their busy count
+
+pub turns-none : (s : State) → s ≡ turns 0 s
+turns-none = Turn.turns-none flows join
+
+pub turns-more : (n : ℕ) (s : State) → turns (n + 1) s ≡ turn flows join (turns n s)
+turns-more = Turn.turns-more flows join
 
 pub turns-add : (m n : ℕ) (s : State) → turns (m + n) s ≡ turns n (turns m s)
 turns-add = Turn.turns-add flows join
+
+pub busy-none : (s : State) → busy 0 s ≡ 0
+busy-none = Turn.busy-none flows join
+
+pub busy-more : (n : ℕ) (s : State) → busy (n + 1) s ≡ busy n s + cond (hasLiveTask (current (turns n s))) 1 0
+busy-more = Turn.busy-more flows join
+
+pub busy-add : (m n : ℕ) (s : State) → busy (m + n) s ≡ busy m s + busy n (turns m s)
+busy-add = Turn.busy-add flows join
+
+pub busy-most : (n : ℕ) (s : State) → busy n s ≤ n
+busy-most = Turn.busy-most flows join
+
+-- ---- views and turns
 
 -- the view after n turns of the view is the view after n turns
 pub turns-view : (v n : ℕ) (s : State) → Valid s → view v (turns n (view v s)) ≡ view v (turns n s)

@@ -1,18 +1,20 @@
--- The law that carries secrecy: the view of a turn is the view of what the view itself becomes, for one turn and for n.
-use Prim.Native.Nat.{ℕ, zero, suc, _+_}
+-- The law that carries secrecy: the view of a turn is the view of what the view itself becomes, for one turn and for n; and
+-- turns one after another.
+use Prim.Native.Nat.{ℕ, zero, suc, _+_, _≤_}
 use mathlib.Core.Path.{_≡_, refl, sym, _∙_}
-use mathlib.Core.Bool.{Bool, true, false}
+use mathlib.Core.Bool.{Bool, true, false, cond}
 use mathlib.Core.List.{List, map}
 use native.Mathlib.Nat.{add-zero, add-suc}
+use native.Mathlib.Numerals.{add-one}
 use native.Mathlib.Omega.{arith}
 use lib.Dec.{eqb}
 use lib.ListN.{set, List·getD-map}
 use lib.Seq.{map-set-same, getD-set-other}
 use Rattle.wire.proofs.Lists.{split}
 use Rattle.label.proofs.Order.{Order, DownClosed}
-use Rattle.machine.specs.State.{Task, Slot, unused, used, State, slotAt}
+use Rattle.machine.specs.State.{Task, Slot, unused, used, State, slotAt, hasLiveTask}
 use Rattle.machine.specs.Effect.{Action, noAction, deliver, spawn, Outcome, outcome}
-use Rattle.machine.specs.Turn.{enqueue, perform, applied, step, turn, turns}
+use Rattle.machine.specs.Turn.{enqueue, perform, applied, current, step, turn, turns, busy}
 use Rattle.machine.specs.View.{viewSlot, view}
 use Rattle.machine.specs.Valid.{Valid}
 use Rattle.machine.proofs.Effect.{Allowed, Contained, outcome-view, outcome-contained}
@@ -87,8 +89,38 @@ module _ (flows : ℕ → ℕ → Bool) (join : ℕ → ℕ → ℕ) (order : Or
         → view sees (turns flows join n s) ≡ view sees (turns flows join n t)
     turns-same n s t ok ok′ e = sym (turns-view n s ok) ∙ rw e (turns-view n t ok′)
 
+-- ---- turns one after another, and their busy count
+
 module _ (flows : ℕ → ℕ → Bool) (join : ℕ → ℕ → ℕ) where
+  pub turns-none : (s : State) → s ≡ turns flows join 0 s
+  unfolding turns
+  turns-none s = refl
+
+  pub turns-more : (n : ℕ) (s : State) → turns flows join (n + 1) s ≡ turn flows join (turns flows join n s)
+  unfolding turns
+  turns-more n s = rw add-one
+
   pub turns-add : (m n : ℕ) (s : State) → turns flows join (m + n) s ≡ turns flows join n (turns flows join m s)
   unfolding turns
   turns-add m zero s = rw add-zero
   turns-add m (suc n) s = rw (add-suc, turns-add m n s)
+
+  pub busy-none : (s : State) → busy flows join 0 s ≡ 0
+  unfolding busy
+  busy-none s = refl
+
+  pub busy-more : (n : ℕ) (s : State) → busy flows join (n + 1) s ≡ busy flows join n s + cond (hasLiveTask (current (turns flows join n s))) 1 0
+  unfolding busy
+  busy-more n s = rw add-one
+
+  pub busy-add : (m n : ℕ) (s : State) → busy flows join (m + n) s ≡ busy flows join m s + busy flows join n (turns flows join m s)
+  unfolding busy
+  busy-add m zero s = rw add-zero (omega arith)
+  busy-add m (suc n) s = rw (add-suc, busy-add m n s, turns-add m n s) (omega arith)
+
+  pub busy-most : (n : ℕ) (s : State) → busy flows join n s ≤ n
+  unfolding busy
+  busy-most zero s = omega arith
+  busy-most (suc n) s =
+      let ih = busy-most n s in
+      split (hasLiveTask (current (turns flows join n s))) (λ e. rw e (omega (arith, ih))) (λ e. rw e (omega (arith, ih)))

@@ -89,7 +89,7 @@ module _ (flows : ℕ → ℕ → Bool) (join : ℕ → ℕ → ℕ) (order : Or
   withoutAction-ok : (t′ : Task) → TaskFacts n s t′ → OutcomeFacts n s (withoutAction t′)
   withoutAction-ok t′ h = record { task = h; action = tt }
 
-  child-ok : (b c : ℕ) → b < n → 1 ≤ c → c ≤ t .spare → TaskFacts n (childSlot s t c) (childOf s t b c)
+  child-ok : (b c : ℕ) → b < n → 1 ≤ c → c ≤ t .spare → TaskFacts n (childSlot s t c) (childOf s (t .label) b c)
   child-ok b c h p q = record {
     kind-low = omega arith;
     kind-high = omega arith;

@@ -34,9 +34,9 @@ stopped kind t = withoutAction (withKind kind t)
 abbrev pub gets : ℕ → ℕ → Task → Outcome
 gets a x t = withoutAction (next (withRegister a x t))
 
--- the new task of a sandbox of size n by the task t in slot s, at place b, and the slot where it stands
-abbrev pub childOf : ℕ → Task → ℕ → ℕ → Task
-childOf s t b n = record { kind = 1; label = t .label; spare = n - 1; pc = b; registers = s ∷ replicate 7 0; mailbox = [] }
+-- the new task of a sandbox of size n by a task in slot s with label l, at place b, and the slot where it stands
+abbrev pub childOf : ℕ → ℕ → ℕ → ℕ → Task
+childOf s l b n = record { kind = 1; label = l; spare = n - 1; pc = b; registers = s ∷ replicate 7 0; mailbox = [] }
 
 abbrev pub childSlot : ℕ → Task → ℕ → ℕ
 childSlot s t n = s + (t .spare - n) + 1
@@ -75,7 +75,7 @@ module _ (flows : ℕ → ℕ → Bool) where
     execute (Poll a b c) s t = taken a b (withPc c t) t (oldest t)
     execute (Sandbox a b c) s t =
         cond (leb c (t .spare))
-        (record { task = next (withRegister a (childSlot s t c) (withSpare (t .spare - c) t)); action = spawn (childSlot s t c) (childOf s t b c) })
+        (record { task = next (withRegister a (childSlot s t c) (withSpare (t .spare - c) t)); action = spawn (childSlot s t c) (childOf s (t .label) b c) })
         (stopped 5 t)
     execute (Identity a b) s t = gets b s (withRegister a (t .label) t)
 

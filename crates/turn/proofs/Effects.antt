@@ -8,7 +8,7 @@ use mathlib.Core.List.{List, [], _∷_, _++_}
 use native.Mathlib.Omega.{arith}
 use borrow.Author.Tests.{le-leb, lt-leb, lt-ltb, le-ltb, ne-eqb}
 use lib.Dec.{eqb}
-use lib.ListN.{length, set, replicate, length-append}
+use lib.ListN.{length, set, length-append}
 use lib.Seq.{set-getD, take-all}
 use Rattle.label.specs.Label.{flows, join}
 use Rattle.wire.specs.Lists.{without, dropFirst, firstIndex}
@@ -17,7 +17,7 @@ use Rattle.instruction.specs.declared.Instruction.{Instruction}
 use Rattle.instruction.specs.declared.Instruction.the-variants.{End, Set, Copy, Add, Subtract, Go, Zero, Raise, Send, Take, Poll, Sandbox, Identity}
 use Rattle.instruction.proofs.Table.{Sound, decode-sound}
 use Rattle.machine.specs.State.{Message, Task, Slot, unused, used, slotAt, isLive, withLabel, withSpare, withPc, register, withRegister, next}
-use Rattle.machine.specs.Effect.{Action, noAction, deliver, spawn, Outcome, withoutAction, stopped, receivable, oldest, taken, execute}
+use Rattle.machine.specs.Effect.{Action, noAction, deliver, spawn, Outcome, withoutAction, stopped, childOf, receivable, oldest, taken, execute}
 use Rattle.machine.specs.Turn.{ofLabel, hasRoom, enqueue, perform, applied}
 use Rattle.table.specs.Change.{noMessage, taskOr, taskAt, messageAt, changeSlot, change, slotWithKind, withMessage, withoutMessage}
 use Rattle.table.proofs.Change.{change-same, change-none, change-set, change-here}
@@ -162,12 +162,10 @@ module _ {s : ℕ} {ss : List Slot} (ready : Ready s ss) where
 
   module _ (a b c : ℕ) {spare : ℕ} (has : spare ≡ taskAt ss s .spare) where
     pub sandbox-done : {own left child : ℕ} → c ≤ spare → own ≡ taskAt ss s .label → left ≡ spare - c → child ≡ s + left + 1
-        → set (change s (λ t. next (withRegister a child (withSpare left t))) ss) child
-        (used (record { kind = 1; label = own; spare = c - 1; pc = b; registers = s ∷ replicate 7 0; mailbox = [] })) ≡ executed (Sandbox a b c) s ss
+        → set (change s (λ t. next (withRegister a child (withSpare left t))) ss) child (used (childOf s own b c)) ≡ executed (Sandbox a b c) s ss
     unfolding execute
     sandbox-done {own} {left} {child} enough l e f =
-        with-action (Sandbox a b c) (λ t. next (withRegister a child (withSpare left t)))
-        (spawn child (record { kind = 1; label = own; spare = c - 1; pc = b; registers = s ∷ replicate 7 0; mailbox = [] }))
+        with-action (Sandbox a b c) (λ t. next (withRegister a child (withSpare left t))) (spawn child (childOf s own b c))
         (rw (f, e, l, ← has, le-leb c spare enough))
 
     pub sandbox-stopped : spare < c → set ss s (slotWithKind 5 (slotAt ss s)) ≡ executed (Sandbox a b c) s ss

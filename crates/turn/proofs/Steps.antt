@@ -1,17 +1,14 @@
 -- Laws of turns over the table: what a live task does with its turn, one turn, and one turn more.
-use Prim.Native.Nat.{ℕ, zero, suc, _+_, _*_, _%_, _≤_}
+use Prim.Native.Nat.{ℕ, _+_, _*_, _%_, _≤_}
 use mathlib.Core.Logic.{_≢_}
 use mathlib.Core.Path.{_≡_, refl, sym, ap, subst, _∙_}
 use mathlib.Core.Bool.{true, false, cond}
 use mathlib.Core.List.{List}
-use native.Mathlib.Nat.{add-zero, add-suc}
-use native.Mathlib.Numerals.{add-one}
 use native.Mathlib.Omega.{arith}
 use borrow.Author.Tests.{leb-true, eq-eqb, ne-eqb}
 use lib.Dec.{eqb}
 use lib.ListN.{length, getD, set}
 use lib.Seq.{set-getD}
-use Rattle.wire.proofs.Lists.{split}
 use Rattle.label.specs.Label.{flows, join}
 use Rattle.instruction.specs.declared.Instruction.{Instruction}
 use Rattle.instruction.specs.declared.Decoded.{Decoded}
@@ -26,7 +23,7 @@ use Rattle.machine.specs.Valid.{Valid}
 use Rattle.machine.specs.Machine.{turns, busy}
 use Rattle.machine.proofs.Rules.{TaskFacts, SlotFacts, size-facts, slot-facts}
 use Rattle.machine.proofs.Mailbox.{mailbox-room}
-use Rattle.machine.proofs.Machine.{turns-valid, turns-add}
+use Rattle.machine.proofs.Machine.{turns-valid, turns-more, busy-more}
 use Rattle.table.specs.Change.{taskOr, taskAt, slotWithKind}
 use Rattle.turn.specs.Effects.{executed, RoomFor, Ready, WasDecoded}
 use Rattle.turn.proofs.Effects.{kind-here}
@@ -128,51 +125,19 @@ module _ (program : List ℕ) (s : ℕ) (ss : List Slot) where
 
 -- ---- one turn more
 
-module _ (start : State) where
-  pub turns-none : start ≡ turns 0 start
-  unfolding Turn.turns
-  turns-none = refl
+-- the state after n turns, by its program, turn slot and slots
+module _ (start : State) (n : ℕ) (program : List ℕ) (s : ℕ) (ss : List Slot) (now : record { program = program; turnSlot = s; slots = ss } ≡ turns n start) where
+  pub turns-next : (ss′ : List Slot) → ss′ ≡ turns 1 (record { program = program; turnSlot = s; slots = ss }) .slots
+      → record { program = program; turnSlot = (s + 1) % 16; slots = ss′ } ≡ turns (n + 1) start
+  unfolding Turn.turns Turn.turn
+  turns-next ss′ e =
+      ap (λ (rs : List Slot). record { program = program; turnSlot = (s + 1) % 16; slots = rs }) e ∙ ap (Turn.turn flows join) now ∙ sym (turns-more n start)
 
-  pub busy-none : busy 0 start ≡ 0
-  unfolding Turn.busy
-  busy-none = refl
-
-  module _ (n : ℕ) where
-    turns-more : turns (n + 1) start ≡ Turn.turn flows join (turns n start)
-    unfolding Turn.turns
-    turns-more = rw add-one
-
-    busy-more : busy (n + 1) start ≡ busy n start + cond (hasLiveTask (current (turns n start))) 1 0
-    unfolding Turn.busy
-    busy-more = rw add-one
-
-    -- the state after n turns, by its program, turn slot and slots
-    module _ (program : List ℕ) (s : ℕ) (ss : List Slot) (now : record { program = program; turnSlot = s; slots = ss } ≡ turns n start) where
-      pub turns-next : (ss′ : List Slot) → ss′ ≡ turns 1 (record { program = program; turnSlot = s; slots = ss }) .slots
-          → record { program = program; turnSlot = (s + 1) % 16; slots = ss′ } ≡ turns (n + 1) start
-      unfolding Turn.turns Turn.turn
-      turns-next ss′ e =
-          ap (λ (rs : List Slot). record { program = program; turnSlot = (s + 1) % 16; slots = rs }) e ∙ ap (Turn.turn flows join) now ∙ sym turns-more
-
-      pub busy-next : busy (n + 1) start ≡ busy n start + cond (hasLiveTask (slotAt ss s)) 1 0
-      busy-next = busy-more ∙ ap (λ (state : State). busy n start + cond (hasLiveTask (current state)) 1 0) (sym now)
-
--- ---- turns after turns
+  pub busy-next : busy (n + 1) start ≡ busy n start + cond (hasLiveTask (slotAt ss s)) 1 0
+  busy-next = busy-more n start ∙ ap (λ (state : State). busy n start + cond (hasLiveTask (current state)) 1 0) (sym now)
 
 pub valid-after : (start at : State) (n : ℕ) → Valid start → at ≡ turns n start → Valid at
 valid-after start at n ok e = subst Valid (sym e) (turns-valid n start ok)
 
 pub slot-after : (start at : State) (n : ℕ) → Valid start → at ≡ turns n start → at .turnSlot ≤ 15
 slot-after start at n ok e = leb-true (at .turnSlot) 15 (valid-after start at n ok e .turnSlot)
-
-pub busy-most : (n : ℕ) (start : State) → busy n start ≤ n
-unfolding Turn.busy
-busy-most zero start = omega arith
-busy-most (suc n) start =
-    let ih = busy-most n start in
-    split (hasLiveTask (current (turns n start))) (λ e. rw e (omega (arith, ih))) (λ e. rw e (omega (arith, ih)))
-
-pub busy-add : (m n : ℕ) (start : State) → busy (m + n) start ≡ busy m start + busy n (turns m start)
-unfolding Turn.busy
-busy-add m zero start = rw add-zero (omega arith)
-busy-add m (suc n) start = rw (add-suc, busy-add m n start, turns-add m n start) (omega arith)

@@ -2,12 +2,11 @@
 ghost use Prim.Native.Nat.{_+_, _-_, _%_, _≤_, _<_, min};
 ghost use mathlib.Core.Path.{_≡_};
 ghost use mathlib.Core.Bool.{true};
-ghost use mathlib.Core.List.{[], _∷_};
-ghost use lib.ListN.{set, replicate};
+ghost use lib.ListN.{set};
 ghost use Rattle.label.specs.Label.{flows, join};
 ghost use Rattle.instruction.specs.declared.Instruction.the-variants.{Copy, Add, Subtract, Zero, Raise, Send, Take, Poll, Sandbox, Identity};
 ghost use Rattle.machine.specs.State.{used, slotAt, hasLiveTask, withRegister, next};
-ghost use Rattle.machine.specs.Effect.{oldest, deliver, outcome};
+ghost use Rattle.machine.specs.Effect.{childOf, oldest, deliver, outcome};
 ghost use Rattle.machine.specs.Turn.{perform, applied};
 ghost use Rattle.machine.specs.Valid.{Valid};
 ghost use Rattle.machine.specs.Machine.{turns, busy};
@@ -173,12 +172,12 @@ fn poll(table: &mut [u32; 3328], slot: u8, a: u8, b: u8, c: u8)
 
 // ---- new tasks
 
-// A new task in slot `child`, of the label, spare slots and place given and with the parent's slot in register 0.
-fn spawn(table: &mut [u32; 3328], child: usize, label: u8, spare: u8, pc: u8, parent: u8)
-    ensures { λ _. ⌜ slotsIn (now (table .exit)) ≡ set (slotsIn (now (table .entry))) child
-        (used (record { kind = 1; label = label; spare = spare; pc = pc; registers = parent ∷ replicate 7 0; mailbox = [] })) ⌝ }
+// The new task of a sandbox in slot `child`, with the parent's label, and its slot in register 0.
+fn spawn(table: &mut [u32; 3328], child: usize, parent: u8, label: u8, pc: u8, size: u8)
+    requires { ⌜ 1 ≤ size ⌝ }
+    ensures { λ _. ⌜ slotsIn (now (table .exit)) ≡ set (slotsIn (now (table .entry))) child (used (childOf parent label pc size)) ⌝ }
 {
-    table::put_task(table, child, 1, label, spare, pc as u32);
+    table::put_task(table, child, 1, label, size - 1, pc as u32);
     table::set_register(table, child, 0, parent as u32);
 }
 
@@ -194,7 +193,7 @@ fn sandbox(table: &mut [u32; 3328], slot: u8, a: u8, b: u8, c: u8)
         let child = (slot as u32) + (left as u32) + 1;
         table::set_spare(table, slot as usize, left);
         gets(table, slot, a, child);
-        spawn(table, child as usize, own, c - 1, b, slot);
+        spawn(table, child as usize, slot, own, b, c);
     } else {
         table::set_kind(table, slot as usize, 5);
     }

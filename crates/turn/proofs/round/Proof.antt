@@ -8,8 +8,9 @@ use borrow.Author.Tests.{leb-true}
 use denote.Ref.{now}
 use Rattle.wire.proofs.Numbers.{test-counted}
 use Rattle.machine.specs.Machine as Machine
+use Rattle.machine.proofs.Machine.{turns-none, busy-none, busy-most}
 use Rattle.table.specs.Table.{slotsIn, stateIn}
-use Rattle.turn.proofs.Steps.{turns-none, busy-none, turns-next, busy-next, valid-after, busy-most}
+use Rattle.turn.proofs.Steps.{turns-next, busy-next, valid-after}
 use Rattle.turn.proofs.round.Statement.{statement}
 use Rattle.turn.proofs.round.Tie as tie
 

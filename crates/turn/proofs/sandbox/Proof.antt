@@ -37,8 +37,7 @@ sandbox-spec =
     (λ c κs. tt)
     gets-requires
     (λ c. omega arith)
-    (λ c. omega arith)
-    (λ c κs. tt)
+    (λ c κs. c .before .before .before .before .before .before .before .before .before .before .pre .1)
     (λ c κs. tt)
     returns
     returns-2)

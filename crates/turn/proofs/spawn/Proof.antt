@@ -1,4 +1,5 @@
 -- `turn::spawn` meets its contract: a new task, then its register 0.
+use native.Mathlib.Omega.{arith}
 use Rattle.table.proofs.Change.{change-set}
 use Rattle.turn.proofs.spawn.Statement.{statement}
 use Rattle.turn.proofs.spawn.Tie as tie
@@ -7,4 +8,4 @@ returns : tie.Need-returns
 returns c = rw (c .set-register .ensures, c .before .before .put-task .ensures, change-set)
 
 pub spawn-spec : {M : Type 1} → statement M
-spawn-spec = tie.close (tie.spec (λ c κs. tt) (λ c κs. tt) returns)
+spawn-spec = tie.close (tie.spec (λ c. omega arith) (λ c κs. tt) (λ c κs. tt) returns)

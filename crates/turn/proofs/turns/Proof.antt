@@ -5,9 +5,9 @@ use native.Mathlib.Omega.{arith}
 use denote.Ref.{now}
 use Rattle.machine.specs.State.{State}
 use Rattle.machine.specs.Machine as Machine
-use Rattle.machine.proofs.Machine.{turns-add}
+use Rattle.machine.proofs.Machine.{turns-none, turns-add, busy-none, busy-add, busy-most}
 use Rattle.table.specs.Table.{stateIn}
-use Rattle.turn.proofs.Steps.{turns-none, busy-none, valid-after, slot-after, busy-most, busy-add}
+use Rattle.turn.proofs.Steps.{valid-after, slot-after}
 use Rattle.turn.proofs.Answer.{told-is}
 use Rattle.turn.proofs.turns.Statement.{statement}
 use Rattle.turn.proofs.turns.Tie as tie
