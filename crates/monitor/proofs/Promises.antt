@@ -33,11 +33,11 @@ use Rattle.monitor.proofs.view.Symbol as ViewCode
 use Rattle.monitor.proofs.view.Met as ViewMet
 
 -- a fact about the arguments a of a function, its result r and its arguments e at its end
-abbrev Fact : Ended → Type 1
+abbrev pub Fact : Ended → Type 1
 Fact f = (κs : Lfts (f .signature .lifetimes)) → Args (f .signature) κs → Res (f .signature) κs → AtExit f κs → Type 0
 
 -- the code requires nothing, and ends with the fact
-abbrev Keeps : Type 1 → (f : Ended) → Routine → Fact f → Type 2
+abbrev pub Keeps : Type 1 → (f : Ended) → Routine → Fact f → Type 2
 Keeps M f code Q =
     (𝓤 : URA M) (H : Heap 𝓤) (𝓜 : Model 𝓤 H) (𝓖 : GhostRules 𝓤 H) (𝓡 : Running 𝓤 H 𝓜)
     → Meets 𝓤 H (𝓖 .A) (f .signature) (𝓡 .run code)

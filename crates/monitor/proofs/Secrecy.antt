@@ -111,9 +111,9 @@ after-calls (c ∷ cs) image a p =
 
 -- ---- the rule
 
-module _ (v : ℕ) (seen : v ≤ 15) (image image′ : List ℕ) (a : Accepted image) (a′ : Accepted image′) (e : viewBytes v image ≡ viewBytes v image′) where
+module _ (v : ℕ) (image image′ : List ℕ) (a : Accepted image) (a′ : Accepted image′) (e : viewBytes v image ≡ viewBytes v image′) where
   -- the states show the observer the same
-  states-same : view v (stateOf image) ≡ view v (stateOf image′)
+  pub states-same : view v (stateOf image) ≡ view v (stateOf image′)
   states-same =
       let s = stateOf image in
       let s′ = stateOf image′ in
@@ -121,6 +121,7 @@ module _ (v : ℕ) (seen : v ≤ 15) (image image′ : List ℕ) (a : Accepted i
       ∙ ap stateOf e
       ∙ image-forth (view v s′) (view-valid v s′ (read-valid image′ a′))
 
+module _ (v : ℕ) (seen : v ≤ 15) (image image′ : List ℕ) (a : Accepted image) (a′ : Accepted image′) (e : viewBytes v image ≡ viewBytes v image′) where
   -- after the same number of turns they still do
   turns-equal : (n : ℕ) → EqualViews v (imageBytes (turns n (stateOf image))) (imageBytes (turns n (stateOf image′)))
   turns-equal n =
@@ -132,7 +133,7 @@ module _ (v : ℕ) (seen : v ≤ 15) (image image′ : List ℕ) (a : Accepted i
       let t′ = turns-valid n s′ ok′ in
       equal-views v seen (imageBytes (turns n s)) (imageBytes (turns n s′)) (written-accepted (turns n s) t) (written-accepted (turns n s′) t′)
       (ap (λ (r : State). imageBytes (view v r)) (image-forth (turns n s) t)
-      ∙ ap imageBytes (turns-same v n s s′ ok ok′ states-same)
+      ∙ ap imageBytes (turns-same v n s s′ ok ok′ (states-same v image image′ a a′ e))
       ∙ ap (λ (r : State). imageBytes (view v r)) (sym (image-forth (turns n s′) t′)))
 
   pub secrecy : (calls calls′ : List TurnCall) → KeptPromises calls image → KeptPromises calls′ image′ → turnsCarriedOut calls ≡ turnsCarriedOut calls′

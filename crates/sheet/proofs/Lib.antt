@@ -2,3 +2,7 @@
 pub mod Text
 pub mod Shown
 pub mod Sheet
+pub mod Printed
+pub mod Claims
+pub mod Examples
+pub mod Promises

@@ -1,15 +1,14 @@
 -- Laws of the sheet: that of the table is that of the view, and how long it is at most.
-use Prim.Native.Nat.{ℕ, suc, _+_, _*_, _/_, _<_, _≤_}
+use Prim.Native.Nat.{ℕ, _+_, _/_, _<_, _≤_}
 use mathlib.Core.Logic.{dite}
 use mathlib.Core.Path.{_≡_, refl, sym, ap, _∙_}
 use mathlib.Core.List.{List, [], _∷_, _++_, map}
-use native.Mathlib.Nat.{mul-suc}
 use native.Mathlib.Omega.{arith}
 use native.Mathlib.Decide.{decLt}
 use lib.ListN.{length, length-append, List·getD-map}
 use Rattle.wire.specs.Lists.{tabulate}
 use Rattle.wire.specs.Items.{encodeItems}
-use Rattle.wire.proofs.Tabulate.{length-tabulate}
+use Rattle.wire.proofs.Items.{items-most}
 use Rattle.label.specs.Label.{flows}
 use Rattle.instruction.specs.Program.{count}
 use Rattle.machine.specs.State.{Task, Slot, unused, used, State, slotAt}
@@ -82,14 +81,6 @@ slot-line-length n s (used t) h ok =
       below-1000 (t .pc) (omega (arith, f .pc)),
       below-100 (length (t .mailbox)) (omega (arith, mailbox-64 (t .mailbox) (f .mailbox))),
     )
-
-items-most : {A : Type 0} (g : A → List ℕ) (w : ℕ) → ((x : A) → length (g x) ≤ w) → (xs : List A) → length (encodeItems g xs) ≤ w * length xs
-unfolding encodeItems
-items-most g w most [] = omega arith
-items-most g w most (x ∷ xs) =
-    let ih = items-most g w most xs in
-    let e : w * suc (length xs) ≡ w + w * length xs = rw mul-suc (omega arith) in
-    rw (length-append, e) (omega (arith, most x, ih))
 
 pub sheet-length : (s : State) → Valid s → length (sheetText s) ≤ 318
 unfolding sheetText slotLines heading ascii tabulate

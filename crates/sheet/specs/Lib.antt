@@ -2,3 +2,4 @@
 pub mod Text
 pub mod Sheet
 pub mod Shown
+pub mod Claims

@@ -11,7 +11,7 @@ ghost use Rattle.sheet.specs.Text.{decimal, spaced, lineRest};
 ghost use Rattle.sheet.specs.Sheet.{refusalLine, sheetAnswer, sheetOutput, printed};
 ghost use Rattle.sheet.specs.Shown.{shownTaskLine, shownLine, shownLines, shownSheet};
 
-// The longest sheet, in bytes: the heading, and sixteen lines of eighteen.
+// No sheet is longer, in bytes: the heading, and sixteen lines of at most eighteen.
 pub const SHEET_MAX: usize = 318;
 
 // The longest input that the program takes.

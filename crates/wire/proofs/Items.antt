@@ -103,6 +103,15 @@ module _ {A : Type 0} (g : A → List ℕ) where
       let e : w * suc (length xs) ≡ w + w * length xs = rw mul-suc (omega arith) in
       rw (length-append, size x, ih, e)
 
+  -- at most w bytes each
+  pub items-most : (w : ℕ) → ((x : A) → length (g x) ≤ w) → (xs : List A) → length (encodeItems g xs) ≤ w * length xs
+  unfolding encodeItems
+  items-most w most [] = omega arith
+  items-most w most (x ∷ xs) =
+      let ih = items-most w most xs in
+      let e : w * suc (length xs) ≡ w + w * length xs = rw mul-suc (omega arith) in
+      rw (length-append, e) (omega (arith, most x))
+
   pub items-bytes : (P : A → Type 0) → ((x : A) → P x → Bytes (g x)) → (xs : List A) → Every P xs → Bytes (encodeItems g xs)
   unfolding encodeItems
   items-bytes P one [] h = tt

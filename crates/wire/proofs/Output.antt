@@ -48,7 +48,7 @@ copy-all s d n h k = rw (take-all n s h, drop-of-length-le d {i = n} k, append-n
 
 -- an output once w was written at its front, a bytes: those, and what stands behind them
 module _ {xs : List ℕ} (w out : List ℕ) (a : ℕ) (h : length w ≡ a) (e : xs ≡ overwrite w out) where
-  written-front : take a xs ≡ w
+  pub written-front : take a xs ≡ w
   written-front = rw (e, h) (take-at w (drop a out) a h)
 
   written-behind : drop a xs ≡ drop a out

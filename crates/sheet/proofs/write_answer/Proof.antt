@@ -8,7 +8,7 @@ use borrow.Author.Tests.{le-leb, lt-leb}
 use denote.Ref.{now}
 use lib.ListN.{length, take}
 use Rattle.wire.specs.Output.{written}
-use Rattle.wire.proofs.Output.{take-overwrite, length-written}
+use Rattle.wire.proofs.Output.{written-front, length-written}
 use Rattle.sheet.specs.Shown.{shownSheet}
 use Rattle.sheet.proofs.write_answer.Statement.{statement}
 use Rattle.sheet.proofs.write_answer.Tie as tie
@@ -18,8 +18,7 @@ abbrev text : tie.After-put-sheet → List ℕ
 text p = shownSheet (p .before .before .before .args .observer) (now (p .before .before .before .args .table))
 
 front : (p : tie.After-put-sheet) → take (p .put-sheet .result) (p .put-sheet .last .0) ≡ text p
-front p =
-    ap (λ (n : ℕ). take n (p .put-sheet .last .0)) (p .put-sheet .ensures .0) ∙ ap (take (length (text p))) (p .put-sheet .ensures .1) ∙ take-overwrite (text p) _
+front p = written-front (text p) _ _ (sym (p .put-sheet .ensures .0)) (p .put-sheet .ensures .1)
 
 slice-aggregate-copy : tie.Need-slice-aggregate-copy
 slice-aggregate-copy c = let p = c .before .before .before in p .put-sheet .ensures .0 ∙ sym (ap length (front p))

@@ -1,0 +1,31 @@
+-- What the program prints, each row by computation.
+use mathlib.Core.Path.{refl}
+use Rattle.wire.specs.Lists as Lists
+use Rattle.wire.specs.Items as Items
+use Rattle.label.specs.Label as Label
+use Rattle.instruction.specs.Table as Table
+use Rattle.instruction.specs.Program as Program
+use Rattle.machine.specs.Effect as Effect
+use Rattle.machine.specs.Turn as Turn
+use Rattle.machine.specs.View as View
+use Rattle.machine.specs.Valid as Valid
+use Rattle.image.specs.Image as Image
+use Rattle.sheet.specs.Text as Text
+use Rattle.sheet.specs.Sheet as Sheet
+use Rattle.sheet.specs.Claims.{Prints}
+use Rattle.sheet.proofs.Printed.{printed-long}
+
+pub prints : Prints
+unfolding Lists.each Lists.tabulate Label.flows Table.decode Program.instructionAt Effect.execute Effect.outcome Turn.turn
+    Turn.turns View.view Program.allLegal Lists.all Items.decodeItems Items.encodeItems Image.programLength Image.slotsPart Image.versionNumber
+    Valid.isProgramLength Image.programNumber Image.turnSlotNumber Image.recordLength Image.skip Image.slotsOf
+    Image.isRecordLength Image.slotNumber Image.slotsNumber Image.tailNumber Valid.sparesUnused
+    Image.spareNumber Image.imageNumber Image.stateOf Image.imageBytes
+    Text.ascii Text.digits Text.decimal Text.spaced Text.lineRest
+    Sheet.heading Sheet.slotLine Sheet.slotLines Sheet.sheetText Sheet.refusalLine Sheet.printed
+prints = record {
+  p2 = refl;
+  empty = refl;
+  observer = refl;
+  longer = λ input h. printed-long input h;
+}

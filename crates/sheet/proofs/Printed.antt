@@ -1,0 +1,80 @@
+-- What the program prints, by what the sheet's call tells where the output has room for every sheet.
+use Prim.Native.Nat.{ℕ, _<_, _≤_}
+use mathlib.Core.Logic.{_≢_}
+use mathlib.Core.Path.{_≡_, refl, sym, _∙_}
+use mathlib.Core.List.{List, [], _∷_}
+use native.Mathlib.Nat.{suc-ne-zero}
+use native.Mathlib.Omega.{arith}
+use borrow.Author.Tests.{le-leb, lt-leb, eqb-true, eqb-false, ne-eqb}
+use lib.Dec.{leb, eqb}
+use lib.ListN.{length, getD, drop}
+use Rattle.wire.specs.Lists.{Bytes}
+use Rattle.wire.specs.Output.{overwrite}
+use Rattle.wire.proofs.Lists.{split}
+use Rattle.machine.specs.Machine.{view}
+use Rattle.machine.proofs.Machine.{view-valid}
+use Rattle.image.specs.Refusal.{_then_, unless}
+use Rattle.image.specs.Image.{imageNumber, stateOf}
+use Rattle.image.proofs.Refusal.{then-right, then-stop, then-assoc, then-holds, unless-holds}
+use Rattle.image.proofs.Image.{accepted-valid, image-listed}
+use Rattle.monitor.specs.Calls.{callNumber, callAnswer, callOutput}
+use Rattle.monitor.proofs.Calls.{answer-number}
+use Rattle.sheet.specs.Sheet.{sheetBytes, sheetCall, sheetAnswer, sheetOutput, refusalLine, printedFor, printed}
+use Rattle.sheet.proofs.Sheet.{sheet-length, refusal-length}
+
+-- ---- an observer byte and an image
+
+module _ (v : ℕ) (image out : List ℕ) (bytes : Bytes image) (room : 318 ≤ length out) where
+  -- the first number met ahead of 13
+  abbrev met : ℕ
+  met = unless (leb v 15) 1 then imageNumber image
+
+  fits : met ≡ 0 → length (sheetBytes v image) ≤ 318
+  fits e =
+      let s = stateOf image in
+      sheet-length (view v s) (view-valid v s (accepted-valid image bytes (then-right (unless (leb v 15) 1) (imageNumber image) e)))
+
+  -- 13 is never told
+  told : callNumber (sheetCall v image) image out ≡ met
+  unfolding callNumber
+  told =
+      sym (then-assoc (unless (leb v 15) 1) (imageNumber image) (unless (leb (length (sheetBytes v image)) (length out)) 13))
+      ∙ split (eqb met 0)
+      (λ e. let none = eqb-true met 0 e in rw (none, le-leb (length (sheetBytes v image)) (length out) (omega (arith, fits none))))
+      (λ e. then-stop met (eqb-false met 0 e) (unless (leb (length (sheetBytes v image)) (length out)) 13))
+
+  pub printed-accepted : sheetAnswer v image out .number ≡ 0
+      → (sheetAnswer v image out .length ≡ length (printedFor v image)) × (sheetOutput v image out ≡ overwrite (printedFor v image) out)
+      × (length (printedFor v image) ≤ 318)
+  unfolding callAnswer callOutput
+  printed-accepted e =
+      let number = sym (answer-number (sheetCall v image) image out) ∙ e in
+      let none = sym told ∙ number in
+      rw (number, none) (refl, refl, fits none)
+
+  pub printed-refused : sheetAnswer v image out .number ≢ 0
+      → (printedFor v image ≡ refusalLine (sheetAnswer v image out .number)) × (sheetOutput v image out ≡ out)
+      × (length (printedFor v image) ≤ 12)
+  unfolding callOutput
+  printed-refused e =
+      let same = answer-number (sheetCall v image) image out ∙ told in
+      let some = ne-eqb met 0 (λ z. e (same ∙ z)) in
+      let most : met < 1000 = then-holds (λ x. x < 1000) (unless (leb v 15) 1) (imageNumber image)
+      (unless-holds (λ x. x < 1000) (leb v 15) 1 (omega arith) (omega arith)) (omega (arith, image-listed image .most)) in
+      (rw (some, same), rw (told, some), rw some (refusal-length met most))
+
+-- ---- standard input
+
+pub printed-long : (input : List ℕ) → 8192 < length input → printed input ≡ refusalLine 11
+unfolding printed
+printed-long input h = rw (lt-leb (length input) 8192 h)
+
+pub printed-empty : (input : List ℕ) → length input ≡ 0 → printed input ≡ refusalLine 3
+unfolding printed
+printed-empty [] e = refl
+printed-empty (v ∷ image) e = absurd (suc-ne-zero (length image) e)
+
+pub printed-parts : (input : List ℕ) → length input ≤ 8192 → length input ≢ 0 → printed input ≡ printedFor (getD input 0 0) (drop 1 input)
+unfolding printed
+printed-parts [] h n = absurd (n refl)
+printed-parts (v ∷ image) h n = rw (le-leb (length (v ∷ image)) 8192 h)

@@ -1,0 +1,33 @@
+-- What is claimed of the sheet and of what the program prints; proofs/Claims.antt inhabits each.
+use Prim.Native.Nat.{ℕ, _<_, _≤_}
+use mathlib.Core.Path.{_≡_}
+use mathlib.Core.List.{List, [], _∷_}
+use lib.ListN.{length}
+use Rattle.machine.specs.Machine.{turns}
+use Rattle.image.specs.Image.{imageBytes}
+use Rattle.monitor.specs.Calls.{viewBytes}
+use Rattle.monitor.specs.Claims.{Accepted}
+use Rattle.monitor.specs.Examples.{b, receiver}
+use Rattle.sheet.specs.Text.{ascii}
+use Rattle.sheet.specs.Sheet.{sheetBytes, sheetAnswer, sheetOutput, printed}
+
+-- an output of 318 bytes is long enough for every sheet
+abbrev pub SheetLength : Type 0
+SheetLength = (v : ℕ) (image : List ℕ) → Accepted image → length (sheetBytes v image) ≤ 318
+
+-- a sheet tells no more than the view: of images whose views for v are the same bytes, the call tells and writes the same
+abbrev pub SheetsFollowViews : Type 0
+SheetsFollowViews =
+    (v : ℕ) (image image′ out : List ℕ) → Accepted image → Accepted image′ → viewBytes v image ≡ viewBytes v image′
+    → (sheetAnswer v image out ≡ sheetAnswer v image′ out) × (sheetOutput v image out ≡ sheetOutput v image′ out)
+
+-- rows of what the program prints
+pub record Prints : Type 0 where
+  -- "`slotsheet`, fed byte 00 and the image of P2, prints whole"
+  pub p2 : printed (0 ∷ imageBytes (turns 1 (b 0 0 receiver))) ≡ ascii "slot kind label spare pc mail\n0 1 0 0 1 0\n5 1 0 0 2 1\n"
+  -- "empty input prints `refused 3`"
+  pub empty : printed [] ≡ ascii "refused 3\n"
+  -- an observer above 15 is refused ahead of the image
+  pub observer : printed (16 ∷ []) ≡ ascii "refused 1\n"
+  -- "The reading program's input buffer is 8,192 bytes; longer input is `refused 11`, ahead of every other."
+  pub longer : (input : List ℕ) → 8192 < length input → printed input ≡ ascii "refused 11\n"

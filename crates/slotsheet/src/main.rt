@@ -1,0 +1,12 @@
+// The program `slotsheet`: reads one observer byte and an image from standard input and prints the observer sheet.
+
+// One byte more than the input buffer of 8,192, so that a longer input is seen to be longer.
+const READ_MAX: usize = 8193;
+
+fn main() {
+    let mut input: [u8; READ_MAX] = [0; READ_MAX];
+    let n = io::read_full(0, &mut input);
+    let mut text: [u8; sheet::SHEET_MAX] = [0; sheet::SHEET_MAX];
+    let length = sheet::print(&input[..n], &mut text);
+    io::write_all(1, &text[..length]);
+}
