@@ -4,7 +4,7 @@
  * Each call takes an image, the bytes of all tasks, whatever they are: it refuses what it cannot take, so the caller
  * checks nothing beforehand. The layout of an image and the meaning of its tasks are the scope document's (01).
  *
- * Numbers. `rithennaw_rewrite`, `rithennaw_turns` and `rithennaw_view` return 0 (RITHENNAW_ACCEPTED), or the number of
+ * Numbers. All calls but `rithennaw_record` return 0 (RITHENNAW_ACCEPTED), or the number of
  * the first rule that is broken, in the order: 1 or 2, then the image from front to back, then 11, 12, 13. A refused call
  * writes no byte of the output, and sets *length, and *busy where there is one, to 0. An accepted one writes *length bytes
  * at the front of the output and leaves the bytes behind them as they were.
@@ -35,6 +35,9 @@ extern "C" {
 #define RITHENNAW_IMAGE_MIN 40
 #define RITHENNAW_IMAGE_MAX 7796
 
+/* An output of RITHENNAW_SHEET_MAX bytes is long enough for every observer sheet. */
+#define RITHENNAW_SHEET_MAX 318
+
 /* The most turns in one call, the highest observer label, and the highest slot. */
 #define RITHENNAW_TURNS_MAX 1000000
 #define RITHENNAW_OBSERVER_MAX 15
@@ -46,7 +49,7 @@ extern "C" {
 /* The numbers that a call returns. */
 enum rithennaw_number {
     RITHENNAW_ACCEPTED = 0,
-    RITHENNAW_OBSERVER = 1,        /* view: the label asked for is above 15 */
+    RITHENNAW_OBSERVER = 1,        /* view, sheet: the label asked for is above 15 */
     RITHENNAW_TURN_LIMIT = 2,      /* turns: more than 1,000,000 turns */
     RITHENNAW_SHORT = 3,           /* the image ends before the last byte of the field or part being read */
     RITHENNAW_VERSION = 4,         /* the first byte isn't 1 */
@@ -93,6 +96,15 @@ uint8_t rithennaw_turns(const uint8_t *image, size_t image_len, uint64_t count, 
  */
 uint8_t rithennaw_view(const uint8_t *image, size_t image_len, uint32_t observer, uint8_t *out, size_t out_len,
                        size_t *length);
+
+/*
+ * Writes the observer sheet: what the view for an observer shows, as text. A heading, and a line for each used slot of the
+ * view: slot, kind, label, spare, place and number of messages in decimal, with single spaces between them. It is ASCII,
+ * every line ends with a line feed, and no 0 byte stands behind it.
+ * Returns 0, 1, 3 to 12, or 13 where the sheet has more than out_len bytes.
+ */
+uint8_t rithennaw_sheet(const uint8_t *image, size_t image_len, uint32_t observer, uint8_t *out, size_t out_len,
+                        size_t *length);
 
 #ifdef __cplusplus
 }

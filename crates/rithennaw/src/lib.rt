@@ -1,7 +1,8 @@
-// The C interface, which include/rithennaw.h declares: each function hands its arguments to the monitor's call, and what
-// the call tells to the caller. A `&[u8]` is a pointer and then a length.
+// The C interface, which include/rithennaw.h declares: each function hands its arguments to a call of the monitor or the
+// sheet's, and what the call tells to the caller. A `&[u8]` is a pointer and then a length.
 ghost use mathlib.Core.Path.{_≡_};
 ghost use Rattle.monitor.specs.Calls.{extentAnswer, rewriteAnswer, rewriteOutput, turnsAnswer, turnsOutput, viewAnswer, viewOutput};
+ghost use Rattle.sheet.specs.Sheet.{sheetAnswer, sheetOutput};
 
 // Where the record of a slot stands in the image: start and length both 0 where it has none.
 #[no_mangle]
@@ -61,4 +62,21 @@ pub extern "C" fn rithennaw_view(
     let viewed = monitor::view(image, observer, out);
     *length = viewed.length;
     viewed.number
+}
+
+// Writes the observer sheet.
+#[no_mangle]
+pub extern "C" fn rithennaw_sheet(
+    image: &[u8],
+    observer: u32,
+    out: &mut [u8],
+    length: &mut usize,
+) -> u8
+    ensures { λ r. ⌜ (r ≡ sheetAnswer observer (now (image .entry)) (now (out .entry)) .number)
+        × (now (length .exit) ≡ sheetAnswer observer (now (image .entry)) (now (out .entry)) .length)
+        × (now (out .exit) ≡ sheetOutput observer (now (image .entry)) (now (out .entry))) ⌝ }
+{
+    let printed = sheet::write(image, observer, out);
+    *length = printed.length;
+    printed.number
 }

@@ -52,9 +52,10 @@ returns : tie.Need-returns
 returns c =
     let s = c .before .before .before .before .before .before .before .before .before .before .before in
     let wrote = c .before .before .put-line-rest in
-    rw (refusal-parts (s .args .number))
-    (both-size word (others s) (now (s .args .out)) size (first (c .before .before .before .before .before .before .before)) (room s) (wrote .ensures .0) (wrote .ensures .1),
-    both-written word (others s) (now (s .args .out)) size (first (c .before .before .before .before .before .before .before)) (room s) (wrote .ensures .0) (wrote .ensures .1))
+    rw (refusal-parts (s .args .number)) (
+      both-size word (others s) (now (s .args .out)) size (first (c .before .before .before .before .before .before .before)) (room s) (wrote .ensures .0) (wrote .ensures .1),
+      both-written word (others s) (now (s .args .out)) size (first (c .before .before .before .before .before .before .before)) (room s) (wrote .ensures .0) (wrote .ensures .1),
+    )
 
 pub put-refusal-spec : {M : Type 1} → statement M
 put-refusal-spec =

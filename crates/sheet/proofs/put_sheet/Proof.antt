@@ -52,9 +52,10 @@ returns : tie.Need-returns
 returns c =
     let s = c .before .before .before .before .before .before .before .before .before .before in
     let wrote = c .before .before .put-lines in
-    rw (sheet-parts (s .args .observer) (now (s .args .table)))
-    (both-size heading (lines s) (now (s .args .out)) size (first (c .before .before .before .before .before .before)) (room s) (wrote .ensures .0) (wrote .ensures .1),
-    both-written heading (lines s) (now (s .args .out)) size (first (c .before .before .before .before .before .before)) (room s) (wrote .ensures .0) (wrote .ensures .1))
+    rw (sheet-parts (s .args .observer) (now (s .args .table))) (
+      both-size heading (lines s) (now (s .args .out)) size (first (c .before .before .before .before .before .before)) (room s) (wrote .ensures .0) (wrote .ensures .1),
+      both-written heading (lines s) (now (s .args .out)) size (first (c .before .before .before .before .before .before)) (room s) (wrote .ensures .0) (wrote .ensures .1),
+    )
 
 pub put-sheet-spec : {M : Type 1} → statement M
 put-sheet-spec =

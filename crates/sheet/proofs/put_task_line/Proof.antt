@@ -57,9 +57,10 @@ returns c =
     let m = c .before .before .before .before .before .before .before .before .before in
     let number = c .before .before .before .before .before .before .before .put-decimal in
     let others = c .before .before .put-line-rest in
-    rw (line m)
-    (both-size (decimal (m .before .before .before .before .before .before .args .slot)) (lineRest (fields m)) (now (m .before .before .before .before .before .before .args .out)) (number .ensures .0) (number .ensures .1) (room m) (others .ensures .0) (others .ensures .1),
-    both-written (decimal (m .before .before .before .before .before .before .args .slot)) (lineRest (fields m)) (now (m .before .before .before .before .before .before .args .out)) (number .ensures .0) (number .ensures .1) (room m) (others .ensures .0) (others .ensures .1))
+    rw (line m) (
+      both-size (decimal (m .before .before .before .before .before .before .args .slot)) (lineRest (fields m)) (now (m .before .before .before .before .before .before .args .out)) (number .ensures .0) (number .ensures .1) (room m) (others .ensures .0) (others .ensures .1),
+      both-written (decimal (m .before .before .before .before .before .before .args .slot)) (lineRest (fields m)) (now (m .before .before .before .before .before .before .args .out)) (number .ensures .0) (number .ensures .1) (room m) (others .ensures .0) (others .ensures .1),
+    )
 
 same-length : tie.Need-same-length
 same-length c =
