@@ -26,62 +26,22 @@ impl Register {
 /// The index of an instruction of the program at hand.
 pub type Target = u8;
 
-/// An instruction with its own operands.
+/// An instruction with its own operands; `Own` is the instruction `self`, a reserved word here.
 #[derive(Debug, Clone, Copy, PartialEq, Eq)]
 pub enum Instruction {
     End,
-    Set {
-        to: Register,
-        value: u16,
-    },
-    Copy {
-        to: Register,
-        from: Register,
-    },
-    Add {
-        to: Register,
-        left: Register,
-        right: Register,
-    },
-    Subtract {
-        to: Register,
-        left: Register,
-        right: Register,
-    },
-    Go {
-        target: Target,
-    },
-    Zero {
-        tested: Register,
-        target: Target,
-    },
-    Raise {
-        label: Label,
-    },
-    Send {
-        to: Register,
-        label: Label,
-        value: Register,
-    },
-    Take {
-        value: Register,
-        sender: Register,
-    },
-    Poll {
-        value: Register,
-        sender: Register,
-        otherwise: Target,
-    },
-    Sandbox {
-        slot: Register,
-        start: Target,
-        size: u8,
-    },
-    /// The instruction `self`, a reserved word here.
-    Own {
-        label: Register,
-        slot: Register,
-    },
+    Set { to: Register, value: u16 },
+    Copy { to: Register, from: Register },
+    Add { to: Register, left: Register, right: Register },
+    Subtract { to: Register, left: Register, right: Register },
+    Go { target: Target },
+    Zero { tested: Register, target: Target },
+    Raise { label: Label },
+    Send { to: Register, label: Label, value: Register },
+    Take { value: Register, sender: Register },
+    Poll { value: Register, sender: Register, otherwise: Target },
+    Sandbox { slot: Register, start: Target, size: u8 },
+    Own { label: Register, slot: Register },
 }
 
 impl Instruction {

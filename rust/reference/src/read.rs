@@ -143,11 +143,11 @@ fn read_mailbox(reader: &mut Reader<'_>) -> Result<Mailbox, Refusal> {
 
 /// No used slot lies in another task's spare, whether that task is live or not.
 fn check_estates(tasks: &Tasks) -> Result<(), Refusal> {
-    let trespass = tasks.iter().enumerate().any(|(slot, task)| {
+    let overlap = tasks.iter().enumerate().any(|(slot, task)| {
         let spare = task.as_ref().map_or(0, |task| usize::from(task.spare));
         tasks.iter().skip(slot + 1).take(spare).any(Option::is_some)
     });
-    if trespass {
+    if overlap {
         return Err(Refusal::Estate);
     }
     Ok(())

@@ -1,19 +1,19 @@
 //! The calls: records, writing again, views, sheets and the program `slotsheet`.
 
-use super::{b, live, picture, written, Picture, Used, END, ROOM, UNTOUCHED};
+use super::{b, image_fields, live, written, ImageFields, TaskFields, END, ROOM, UNTOUCHED};
 use crate::{record, rewrite, sheet, slotsheet, turns, view};
 
 /// Tasks of the labels 0, 1, 3 and 15, each with mail of several labels.
-fn mixed() -> Picture {
+fn mixed() -> ImageFields {
     let mail = vec![(0, 1, 10), (1, 2, 20), (2, 3, 30), (0, 4, 40)];
-    let task = |slot, label, spare| Used { label, spare, mail: mail.clone(), ..live(slot) };
-    picture(&[END, END], &[task(0, 0, 1), task(2, 1, 0), task(7, 3, 3), task(15, 15, 0)])
+    let task = |slot, label, spare| TaskFields { label, spare, mail: mail.clone(), ..live(slot) };
+    image_fields(&[END, END], &[task(0, 0, 1), task(2, 1, 0), task(7, 3, 3), task(15, 15, 0)])
 }
 
 /// What the view for this label leaves of an image.
-fn seen(mut image: Picture, observer: u8) -> Picture {
-    image.used.retain(|task| task.label | observer == observer);
-    for task in &mut image.used {
+fn seen(mut image: ImageFields, observer: u8) -> ImageFields {
+    image.tasks.retain(|task| task.label | observer == observer);
+    for task in &mut image.tasks {
         task.mail.retain(|(label, _, _)| label | observer == observer);
     }
     image
@@ -24,7 +24,7 @@ fn a_record_is_the_part_of_the_image_that_holds_it() {
     let image = mixed();
     let bytes = image.bytes();
     for slot in 0..18 {
-        let used = image.used.iter().find(|used| used.slot == slot);
+        let used = image.tasks.iter().find(|task| task.slot == slot);
         let range = record(&bytes, slot as u32);
         match used {
             Some(used) => assert_eq!(bytes[range], used.record()),
@@ -36,7 +36,7 @@ fn a_record_is_the_part_of_the_image_that_holds_it() {
 
 #[test]
 fn an_image_is_written_again_as_it_was_read() {
-    for bytes in [b().bytes(), mixed().bytes(), picture(&[END], &[]).bytes()] {
+    for bytes in [b().bytes(), mixed().bytes(), image_fields(&[END], &[]).bytes()] {
         let mut out = [UNTOUCHED; ROOM];
         let answer = rewrite(&bytes, &mut out);
         assert_eq!((answer.number, answer.busy), (0, 0));
@@ -47,8 +47,11 @@ fn an_image_is_written_again_as_it_was_read() {
 #[test]
 fn the_shortest_image_has_40_bytes_and_the_longest_7796() {
     let mail: Vec<_> = (0..64).map(|index| (index % 16, 15, 0)).collect();
-    let full: Vec<_> = (0..16).map(|slot| Used { mail: mail.clone(), ..live(slot) }).collect();
-    for (image, length) in [(picture(&[END], &[]), 40), (picture(&[END; 256], &full), 7796)] {
+    let full: Vec<_> =
+        (0..16).map(|slot| TaskFields { mail: mail.clone(), ..live(slot) }).collect();
+    for (image, length) in
+        [(image_fields(&[END], &[]), 40), (image_fields(&[END; 256], &full), 7796)]
+    {
         let mut out = [0; ROOM];
         assert_eq!(rewrite(&image.bytes(), &mut out).length, length);
         assert_eq!(turns(&image.bytes(), 0, &mut out).length, length);

@@ -1,10 +1,10 @@
 //! The checked examples of document 01 that need an image, in its order.
 
-use super::{b, live, picture, written, Picture, END, ROOM, UNTOUCHED};
+use super::{b, image_fields, live, written, ImageFields, END, ROOM, UNTOUCHED};
 use crate::{rewrite, slotsheet, turns, view};
 
 /// B after one turn.
-fn p2() -> Picture {
+fn p2() -> ImageFields {
     let mut expected = b();
     expected.turn_slot = 1;
     expected.task(0).place = 1;
@@ -56,8 +56,8 @@ fn p5_mail_that_is_not_receivable() {
 }
 
 /// A parent in slot 3 with spare 4, before and after it asks for a sandbox.
-fn sandbox(size: u8) -> (Picture, Picture) {
-    let mut image = picture(&[[0xB, 6, 1, size], END], &[live(3)]);
+fn sandbox(size: u8) -> (ImageFields, ImageFields) {
+    let mut image = image_fields(&[[0xB, 6, 1, size], END], &[live(3)]);
     image.turn_slot = 3;
     let parent = image.task(3);
     (parent.spare, parent.label, parent.registers[0]) = (4, 6, 99);
@@ -72,7 +72,7 @@ fn p6_p7_a_child_stands_at_the_end_of_the_spare() {
         let (image, mut expected) = sandbox(size);
         let mut child = live(slot);
         (child.label, child.spare, child.place, child.registers[0]) = (6, size - 1, 1, 3);
-        expected.used.push(child);
+        expected.tasks.push(child);
         let parent = expected.task(3);
         (parent.spare, parent.place, parent.registers[6]) = (left, 1, slot as u32);
         assert_eq!(image.after(1), (expected.bytes(), 1));
@@ -88,7 +88,7 @@ fn p7_a_size_above_the_spare_stops_the_parent() {
 
 #[test]
 fn p8_subtracting_wraps() {
-    let image = picture(&[[1, 2, 0, 1], [4, 3, 1, 2]], &[live(0)]);
+    let image = image_fields(&[[1, 2, 0, 1], [4, 3, 1, 2]], &[live(0)]);
     let mut expected = image.clone();
     expected.turn_slot = 1;
     let task = expected.task(0);
@@ -98,7 +98,7 @@ fn p8_subtracting_wraps() {
 
 #[test]
 fn p9_the_fifth_message_of_a_label_is_dropped() {
-    let mut image = picture(&[[8, 1, 2, 2], [8, 1, 0, 2], [5, 2, 0, 0]], &[live(0), live(1)]);
+    let mut image = image_fields(&[[8, 1, 2, 2], [8, 1, 0, 2], [5, 2, 0, 0]], &[live(0), live(1)]);
     (image.task(0).registers[1], image.task(0).registers[2]) = (1, 50);
     image.task(1).place = 2;
     image.task(1).mail = vec![(2, 7, 1), (2, 7, 2), (2, 7, 3), (2, 7, 4)];
@@ -120,7 +120,7 @@ fn four_messages_of_a_label_are_accepted_and_five_refused() {
 
 #[test]
 fn spare_ends_at_slot_fifteen() {
-    let mut image = picture(&[END], &[live(3)]);
+    let mut image = image_fields(&[END], &[live(3)]);
     image.task(3).spare = 12;
     assert_eq!(rewrite(&image.bytes(), &mut [0; ROOM]).number, 0);
     image.task(3).spare = 13;
@@ -130,7 +130,7 @@ fn spare_ends_at_slot_fifteen() {
 #[test]
 fn a_used_slot_in_a_spare_is_refused() {
     for (slot, number) in [(5, 12), (6, 0)] {
-        let mut image = picture(&[END], &[live(3), live(slot)]);
+        let mut image = image_fields(&[END], &[live(3), live(slot)]);
         image.task(3).spare = 2;
         assert_eq!(rewrite(&image.bytes(), &mut [0; ROOM]).number, number);
     }

@@ -2,9 +2,9 @@
 
 mod calls;
 mod examples;
+mod made_up;
 mod refusals;
 mod steps;
-mod wild;
 
 use crate::{turns, Answer};
 
@@ -24,7 +24,7 @@ type Mail = (u8, u8, u32);
 
 /// A used slot before it is written.
 #[derive(Debug, Clone, PartialEq)]
-struct Used {
+struct TaskFields {
     slot: usize,
     kind: u8,
     label: u8,
@@ -35,33 +35,33 @@ struct Used {
 }
 
 /// A live task of label 0 at place 0 with nothing in it.
-fn live(slot: usize) -> Used {
-    Used { slot, kind: 1, label: 0, spare: 0, place: 0, registers: [0; 8], mail: vec![] }
+fn live(slot: usize) -> TaskFields {
+    TaskFields { slot, kind: 1, label: 0, spare: 0, place: 0, registers: [0; 8], mail: vec![] }
 }
 
 /// An image before it is written.
 #[derive(Debug, Clone)]
-struct Picture {
+struct ImageFields {
     program: Vec<Code>,
     turn_slot: u8,
-    used: Vec<Used>,
+    tasks: Vec<TaskFields>,
 }
 
 /// An image of this program and these used slots, slot 0 being next.
-fn picture(program: &[Code], used: &[Used]) -> Picture {
-    Picture { program: program.to_vec(), turn_slot: 0, used: used.to_vec() }
+fn image_fields(program: &[Code], tasks: &[TaskFields]) -> ImageFields {
+    ImageFields { program: program.to_vec(), turn_slot: 0, tasks: tasks.to_vec() }
 }
 
-impl Picture {
-    fn task(&mut self, slot: usize) -> &mut Used {
-        self.used.iter_mut().find(|used| used.slot == slot).expect("a used slot")
+impl ImageFields {
+    fn task(&mut self, slot: usize) -> &mut TaskFields {
+        self.tasks.iter_mut().find(|task| task.slot == slot).expect("a used slot")
     }
 
     /// The image's bytes.
     fn bytes(&self) -> Vec<u8> {
         let mut bytes = self.head();
         for slot in 0..16 {
-            let record = self.used.iter().find(|used| used.slot == slot).map(Used::record);
+            let record = self.tasks.iter().find(|task| task.slot == slot).map(TaskFields::record);
             let record = record.unwrap_or_default();
             bytes.extend((record.len() as u16).to_be_bytes());
             bytes.extend(record);
@@ -87,7 +87,7 @@ impl Picture {
     }
 }
 
-impl Used {
+impl TaskFields {
     fn record(&self) -> Vec<u8> {
         let mut bytes = vec![self.kind, self.label, self.spare];
         bytes.extend(self.place.to_be_bytes());
@@ -107,8 +107,8 @@ fn written(answer: Answer, out: &[u8]) -> Vec<u8> {
 }
 
 /// The image B of the checked examples.
-fn b() -> Picture {
-    let mut b = picture(&[[8, 1, 0, 2], END, [9, 3, 4, 0], END], &[live(0), live(5)]);
+fn b() -> ImageFields {
+    let mut b = image_fields(&[[8, 1, 0, 2], END, [9, 3, 4, 0], END], &[live(0), live(5)]);
     b.task(0).registers = [0, 5, 700, 0, 0, 0, 0, 0];
     b.task(5).place = 2;
     b

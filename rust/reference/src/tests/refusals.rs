@@ -1,13 +1,16 @@
 //! One image for each number and the order in which they are given.
 
-use super::{b, live, picture, Picture, Used, END, ROOM, UNTOUCHED};
+use super::{b, image_fields, live, ImageFields, TaskFields, END, ROOM, UNTOUCHED};
 use crate::{record, rewrite, sheet, turns, view, Answer};
 
-const REFUSED: Answer = Answer { number: 0, length: 0, busy: 0 };
+/// What a refused call tells.
+fn refused(number: u8) -> Answer {
+    Answer { number, length: 0, busy: 0 }
+}
 
 /// Every call that reads this image refuses it with this number and writes nothing.
 fn assert_refused(bytes: &[u8], number: u8) {
-    let expected = Answer { number, ..REFUSED };
+    let expected = refused(number);
     let mut out = [UNTOUCHED; ROOM];
     assert_eq!(rewrite(bytes, &mut out), expected);
     assert_eq!(turns(bytes, 3, &mut out), expected);
@@ -18,7 +21,7 @@ fn assert_refused(bytes: &[u8], number: u8) {
 }
 
 /// B with a change to its task in slot 5.
-fn b_with(change: fn(&mut Used)) -> Vec<u8> {
+fn b_with(change: fn(&mut TaskFields)) -> Vec<u8> {
     let mut image = b();
     change(image.task(5));
     image.bytes()
@@ -56,86 +59,59 @@ fn program_lengths_outside_the_rule_are_5() {
     }
 }
 
+/// By code, the least value that each operand may not have, in a program of two instructions.
+const OPERAND_LIMITS: [[u16; 3]; 13] = [
+    [1, 1, 1],
+    [8, 256, 256],
+    [8, 8, 1],
+    [8, 8, 8],
+    [8, 8, 8],
+    [2, 1, 1],
+    [8, 2, 1],
+    [16, 1, 1],
+    [8, 16, 8],
+    [8, 8, 1],
+    [8, 8, 2],
+    [8, 2, 16],
+    [8, 8, 1],
+];
+
+const SANDBOX: u8 = 11;
+
 #[test]
-fn instructions_outside_the_table_are_6() {
-    let wrong = [
-        [0, 1, 0, 0],
-        [0, 0, 1, 0],
-        [0, 0, 0, 1],
-        [1, 8, 0, 0],
-        [2, 8, 0, 0],
-        [2, 0, 8, 0],
-        [2, 0, 0, 1],
-        [3, 8, 0, 0],
-        [3, 0, 8, 0],
-        [3, 0, 0, 8],
-        [4, 8, 0, 0],
-        [4, 0, 8, 0],
-        [4, 0, 0, 8],
-        [5, 2, 0, 0],
-        [5, 0, 1, 0],
-        [5, 0, 0, 1],
-        [6, 8, 0, 0],
-        [6, 0, 2, 0],
-        [6, 0, 0, 1],
-        [7, 16, 0, 0],
-        [7, 0, 1, 0],
-        [7, 0, 0, 1],
-        [8, 8, 0, 0],
-        [8, 0, 16, 0],
-        [8, 0, 0, 8],
-        [9, 8, 0, 0],
-        [9, 0, 8, 0],
-        [9, 0, 0, 1],
-        [10, 8, 0, 0],
-        [10, 0, 8, 0],
-        [10, 0, 0, 2],
-        [11, 8, 0, 1],
-        [11, 0, 2, 1],
-        [11, 0, 0, 0],
-        [11, 0, 0, 16],
-        [12, 8, 0, 0],
-        [12, 0, 8, 0],
-        [12, 0, 0, 1],
-        [13, 0, 0, 0],
-        [255, 0, 0, 0],
-    ];
-    for instruction in wrong {
-        assert_refused(&picture(&[END, instruction], &[]).bytes(), 6);
+fn instructions_outside_the_table_are_6_and_others_accepted() {
+    for (code, limits) in (0u8..).zip(OPERAND_LIMITS) {
+        for (operand, byte) in
+            (0..3).flat_map(|operand| (0..=255u8).map(move |byte| (operand, byte)))
+        {
+            let mut instruction = [code, 0, 0, u8::from(code == SANDBOX)];
+            instruction[1 + operand] = byte;
+            let no_size = code == SANDBOX && instruction[3] == 0;
+            let number = if u16::from(byte) < limits[operand] && !no_size { 0 } else { 6 };
+            let bytes = image_fields(&[END, instruction], &[]).bytes();
+            assert_eq!(rewrite(&bytes, &mut [0; ROOM]).number, number, "{instruction:?}");
+        }
     }
 }
 
 #[test]
-fn the_widest_operands_are_accepted() {
-    let widest = [
-        [1, 7, 255, 255],
-        [2, 7, 7, 0],
-        [3, 7, 7, 7],
-        [4, 7, 7, 7],
-        [5, 11, 0, 0],
-        [6, 7, 11, 0],
-        [7, 15, 0, 0],
-        [8, 7, 15, 7],
-        [9, 7, 7, 0],
-        [10, 7, 7, 11],
-        [11, 7, 11, 15],
-        [12, 7, 7, 0],
-    ];
-    let bytes = picture(&widest, &[]).bytes();
-    assert_eq!(rewrite(&bytes, &mut [0; ROOM]).number, 0);
+fn codes_behind_the_table_are_6() {
+    for code in 13..=255 {
+        assert_refused(&image_fields(&[END, [code, 0, 0, 0]], &[]).bytes(), 6);
+    }
 }
 
 #[test]
 fn turn_slots_above_15_are_7() {
     for turn_slot in [16, 255] {
-        assert_refused(&Picture { turn_slot, ..b() }.bytes(), 7);
+        assert_refused(&ImageFields { turn_slot, ..b() }.bytes(), 7);
     }
 }
 
 #[test]
 fn record_lengths_outside_the_rule_are_8() {
     for length in [1u16, 6, 36, 38, 42, 44, 420, 422, 427, 65535] {
-        let mut bytes = picture(&[END], &[]).head();
+        let mut bytes = image_fields(&[END], &[]).head();
         bytes.extend(length.to_be_bytes());
         assert_refused(&bytes, 8);
     }
@@ -143,7 +119,7 @@ fn record_lengths_outside_the_rule_are_8() {
 
 #[test]
 fn task_fields_out_of_range_are_9() {
-    let changes: [fn(&mut Used); 6] = [
+    let changes: [fn(&mut TaskFields); 6] = [
         |task| task.kind = 0,
         |task| task.kind = 6,
         |task| task.label = 16,
@@ -159,7 +135,7 @@ fn task_fields_out_of_range_are_9() {
 
 #[test]
 fn mail_out_of_range_is_10() {
-    let changes: [fn(&mut Used); 3] = [
+    let changes: [fn(&mut TaskFields); 3] = [
         |task| task.mail = vec![(16, 0, 0)],
         |task| task.mail = vec![(0, 16, 0)],
         |task| task.mail = vec![(1, 0, 0), (1, 0, 0), (2, 0, 0), (1, 0, 0), (1, 0, 0), (1, 0, 0)],
@@ -177,7 +153,7 @@ fn bytes_behind_slot_15_are_11() {
 #[test]
 fn a_used_slot_in_the_spare_of_a_stopped_task_is_12() {
     for kind in 1..=5 {
-        let mut image = picture(&[END], &[live(3), live(5)]);
+        let mut image = image_fields(&[END], &[live(3), live(5)]);
         (image.task(3).kind, image.task(3).spare) = (kind, 2);
         assert_refused(&image.bytes(), 12);
     }
@@ -189,7 +165,7 @@ fn an_output_shorter_than_the_answer_is_13() {
     let (after, _) = b().after(1);
     assert!(after.len() > bytes.len());
     let mut out = vec![UNTOUCHED; after.len() - 1];
-    let expected = Answer { number: 13, ..REFUSED };
+    let expected = refused(13);
     assert_eq!(turns(&bytes, 1, &mut out), expected);
     assert_eq!(rewrite(&bytes, &mut out[..bytes.len() - 1]), expected);
     assert_eq!(view(&bytes, 0, &mut out[..bytes.len() - 1]), expected);
@@ -210,15 +186,15 @@ fn arguments_come_ahead_of_the_image() {
 /// Each image has two or more faults; the first in document 01's order is given.
 #[test]
 fn the_first_fault_is_given() {
-    let end = picture(&[END], &[]);
-    let wrong_code = picture(&[[13, 0, 0, 0], END], &[]).bytes();
-    let faulty_task = |change: fn(&mut Used)| {
-        let mut image = picture(&[END], &[live(14), live(15)]);
+    let end = image_fields(&[END], &[]);
+    let wrong_code = image_fields(&[[13, 0, 0, 0], END], &[]).bytes();
+    let faulty_task = |change: fn(&mut TaskFields)| {
+        let mut image = image_fields(&[END], &[live(14), live(15)]);
         image.task(15).label = 16;
         change(image.task(14));
         image.bytes()
     };
-    let cut_record = |change: fn(&mut Used)| {
+    let cut_record = |change: fn(&mut TaskFields)| {
         let bytes = faulty_task(change);
         bytes[..bytes.len() - 40].to_vec()
     };
@@ -245,7 +221,7 @@ fn the_first_fault_is_given() {
 
 #[test]
 fn tail_comes_ahead_of_estate_and_estate_ahead_of_output() {
-    let mut image = picture(&[END], &[live(3), live(5)]);
+    let mut image = image_fields(&[END], &[live(3), live(5)]);
     image.task(3).spare = 2;
     assert_refused(&[image.bytes(), vec![0]].concat(), 11);
     assert_eq!(rewrite(&image.bytes(), &mut []).number, 12);

@@ -1,11 +1,11 @@
 //! The step rules, instruction by instruction.
 
-use super::{live, picture, Code, Picture, Used, END};
+use super::{image_fields, live, Code, ImageFields, TaskFields, END};
 
 /// A live task in slot 2 of label 5, at place 1 of a program of three instructions, about to carry
 /// out this one; the registers hold 100 to 107.
-fn about_to(instruction: Code) -> Picture {
-    let mut image = picture(&[END, instruction, END], &[live(2)]);
+fn about_to(instruction: Code) -> ImageFields {
+    let mut image = image_fields(&[END, instruction, END], &[live(2)]);
     image.turn_slot = 2;
     let task = image.task(2);
     (task.label, task.place) = (5, 1);
@@ -14,7 +14,7 @@ fn about_to(instruction: Code) -> Picture {
 }
 
 /// One turn makes this change to the task in slot 2 and no other.
-fn assert_step(image: &Picture, change: impl FnOnce(&mut Used)) {
+fn assert_step(image: &ImageFields, change: impl FnOnce(&mut TaskFields)) {
     let mut expected = image.clone();
     expected.turn_slot = 3;
     change(expected.task(2));
@@ -88,7 +88,7 @@ fn stopped_tasks_and_unused_slots_are_not_busy() {
 
 #[test]
 fn slot_15_is_followed_by_slot_0() {
-    let mut image = picture(&[END], &[live(0)]);
+    let mut image = image_fields(&[END], &[live(0)]);
     image.turn_slot = 15;
     let mut expected = image.clone();
     (expected.turn_slot, expected.task(0).kind) = (1, 2);
@@ -134,7 +134,7 @@ fn with_nothing_receivable_take_waits_and_poll_jumps() {
 }
 
 /// A task in slot 2 of label 5 about to send label 7 and the figure 102 to the slot in register 1.
-fn about_to_send(to: u32) -> Picture {
+fn about_to_send(to: u32) -> ImageFields {
     let mut image = about_to([8, 1, 7, 2]);
     image.task(2).registers[1] = to;
     image
@@ -152,7 +152,7 @@ fn sends_to_no_live_task_are_dropped() {
     }
     for kind in 2..=5 {
         let mut image = about_to_send(3);
-        image.used.push(Used { kind, ..live(3) });
+        image.tasks.push(TaskFields { kind, ..live(3) });
         assert_step(&image, |task| task.place = 2);
     }
 }
@@ -186,8 +186,8 @@ fn a_child_runs_in_the_same_round() {
     expected.turn_slot = 4;
     let parent = expected.task(2);
     (parent.spare, parent.place, parent.registers[1]) = (0, 2, 3);
-    let mut child = Used { kind: 2, label: 5, place: 2, ..live(3) };
+    let mut child = TaskFields { kind: 2, label: 5, place: 2, ..live(3) };
     child.registers[0] = 2;
-    expected.used.push(child);
+    expected.tasks.push(child);
     assert_eq!(image.after(2), (expected.bytes(), 2));
 }

@@ -1,6 +1,6 @@
 //! Made-up images: no call panics, and what an accepted call writes is itself accepted.
 
-use super::{live, picture, Picture, Used, ROOM};
+use super::{image_fields, live, ImageFields, TaskFields, ROOM};
 use crate::{record, rewrite, sheet, slotsheet, turns, view};
 
 /// Numbers from a fixed seed (xorshift).
@@ -35,7 +35,7 @@ impl Numbers {
         }
     }
 
-    fn task(&mut self, slot: usize, count: u64) -> Used {
+    fn task(&mut self, slot: usize, count: u64) -> TaskFields {
         let mut task = live(slot);
         (task.label, task.place) = (self.byte_below(4), self.below(count + 1) as u16);
         task.registers = [0; 8].map(|_| self.below(17) as u32);
@@ -44,13 +44,13 @@ impl Numbers {
     }
 
     /// An accepted image: every fourth slot used, with up to three spares each.
-    fn picture(&mut self) -> Picture {
+    fn image_fields(&mut self) -> ImageFields {
         let count = 1 + self.below(12);
         let program: Vec<_> = (0..count).map(|_| self.instruction(count)).collect();
-        let mut image = picture(&program, &[]);
+        let mut image = image_fields(&program, &[]);
         for slot in [0, 4, 8, 12] {
             let spare = self.byte_below(4);
-            image.used.push(Used { spare, ..self.task(slot, count) });
+            image.tasks.push(TaskFields { spare, ..self.task(slot, count) });
         }
         image
     }
@@ -60,7 +60,7 @@ impl Numbers {
 fn what_an_accepted_call_writes_is_accepted() {
     let mut numbers = Numbers(1);
     for _ in 0..500 {
-        let image = numbers.picture().bytes();
+        let image = numbers.image_fields().bytes();
         let (mut after, mut again) = ([0; ROOM], [0; ROOM]);
         let answer = turns(&image, numbers.below(300), &mut after);
         assert_eq!(answer.number, 0);
@@ -97,7 +97,7 @@ fn spoilt_images_are_accepted_or_refused_by_all_calls() {
     let mut numbers = Numbers(2);
     let mut accepted = 0;
     for _ in 0..5000 {
-        let mut image = numbers.picture().bytes();
+        let mut image = numbers.image_fields().bytes();
         for _ in 0..numbers.below(4) {
             let index = numbers.below(image.len() as u64) as usize;
             image[index] = numbers.byte_below(256);
