@@ -58,19 +58,13 @@ impl Instruction {
             [0x01, a, b, c] => Set { to: register(a)?, value: u16::from_be_bytes([b, c]) },
             [0x02, a, b, 0] => Copy { to: register(a)?, from: register(b)? },
             [0x03, a, b, c] => Add { to: register(a)?, left: register(b)?, right: register(c)? },
-            [0x04, a, b, c] => {
-                Subtract { to: register(a)?, left: register(b)?, right: register(c)? }
-            }
+            [0x04, a, b, c] => Subtract { to: register(a)?, left: register(b)?, right: register(c)? },
             [0x05, a, 0, 0] => Go { target: target(a)? },
             [0x06, a, b, 0] => Zero { tested: register(a)?, target: target(b)? },
             [0x07, a, 0, 0] => Raise { label: Label::new(a)? },
-            [0x08, a, b, c] => {
-                Send { to: register(a)?, label: Label::new(b)?, value: register(c)? }
-            }
+            [0x08, a, b, c] => Send { to: register(a)?, label: Label::new(b)?, value: register(c)? },
             [0x09, a, b, 0] => Take { value: register(a)?, sender: register(b)? },
-            [0x0A, a, b, c] => {
-                Poll { value: register(a)?, sender: register(b)?, otherwise: target(c)? }
-            }
+            [0x0A, a, b, c] => Poll { value: register(a)?, sender: register(b)?, otherwise: target(c)? },
             [0x0B, a, b, c @ 1..=15] => Sandbox { slot: register(a)?, start: target(b)?, size: c },
             [0x0C, a, b, 0] => Own { label: register(a)?, slot: register(b)? },
             _ => return None,

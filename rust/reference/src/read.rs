@@ -83,8 +83,7 @@ pub fn read(bytes: &[u8]) -> Result<(Image<'_>, Records), Refusal> {
 
 fn read_program_bytes<'a>(reader: &mut Reader<'a>) -> Result<&'a [u8], Refusal> {
     let length = usize::from(reader.two_bytes()?);
-    if !(Instruction::LENGTH..=PROGRAM_LIMIT).contains(&length) || length % Instruction::LENGTH != 0
-    {
+    if !(Instruction::LENGTH..=PROGRAM_LIMIT).contains(&length) || length % Instruction::LENGTH != 0 {
         return Err(Refusal::ProgramLength);
     }
     reader.part(length)
@@ -93,18 +92,14 @@ fn read_program_bytes<'a>(reader: &mut Reader<'a>) -> Result<&'a [u8], Refusal> 
 fn decode_program(bytes: &[u8]) -> Result<Vec<Instruction>, Refusal> {
     let count = bytes.len() / Instruction::LENGTH;
     let mut reader = Reader::new(bytes);
-    (0..count)
-        .map(|_| Instruction::decode(reader.field()?, count).ok_or(Refusal::Instruction))
-        .collect()
+    (0..count).map(|_| Instruction::decode(reader.field()?, count).ok_or(Refusal::Instruction)).collect()
 }
 
 /// The bytes of the next slot's record; none for an unused slot.
 fn read_record<'a>(reader: &mut Reader<'a>) -> Result<&'a [u8], Refusal> {
     let length = usize::from(reader.two_bytes()?);
     let messages = length.checked_sub(TASK_LENGTH);
-    let whole = messages.is_some_and(|mail| {
-        mail % MESSAGE_LENGTH == 0 && mail / MESSAGE_LENGTH <= Mailbox::CAPACITY
-    });
+    let whole = messages.is_some_and(|mail| mail % MESSAGE_LENGTH == 0 && mail / MESSAGE_LENGTH <= Mailbox::CAPACITY);
     if length != 0 && !whole {
         return Err(Refusal::RecordLength);
     }

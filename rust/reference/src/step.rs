@@ -88,9 +88,7 @@ impl Task {
             Instruction::Poll { value, sender, otherwise } => {
                 return self.take(value, sender, Outcome::Jump(otherwise.into()));
             }
-            Instruction::Sandbox { slot, start, size } => {
-                return self.sandbox(slot, start, size, own)
-            }
+            Instruction::Sandbox { slot, start, size } => return self.sandbox(slot, start, size, own),
             Instruction::Own { label, slot } => {
                 registers.set(label, self.label.number().into());
                 registers.set(slot, own.number().into());

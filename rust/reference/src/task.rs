@@ -18,9 +18,7 @@ impl Kind {
     /// The kind that this byte stands for.
     pub fn new(byte: u8) -> Option<Kind> {
         use Kind::*;
-        [Live, Done, RanOff, StoppedByLabel, WantOfSpare]
-            .into_iter()
-            .find(|&kind| kind as u8 == byte)
+        [Live, Done, RanOff, StoppedByLabel, WantOfSpare].into_iter().find(|&kind| kind as u8 == byte)
     }
 }
 

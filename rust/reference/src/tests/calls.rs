@@ -47,11 +47,8 @@ fn an_image_is_written_again_as_it_was_read() {
 #[test]
 fn the_shortest_image_has_40_bytes_and_the_longest_7796() {
     let mail: Vec<_> = (0..64).map(|index| (index % 16, 15, 0)).collect();
-    let full: Vec<_> =
-        (0..16).map(|slot| TaskFields { mail: mail.clone(), ..live(slot) }).collect();
-    for (image, length) in
-        [(image_fields(&[END], &[]), 40), (image_fields(&[END; 256], &full), 7796)]
-    {
+    let full: Vec<_> = (0..16).map(|slot| TaskFields { mail: mail.clone(), ..live(slot) }).collect();
+    for (image, length) in [(image_fields(&[END], &[]), 40), (image_fields(&[END; 256], &full), 7796)] {
         let mut out = [0; ROOM];
         assert_eq!(rewrite(&image.bytes(), &mut out).length, length);
         assert_eq!(turns(&image.bytes(), 0, &mut out).length, length);

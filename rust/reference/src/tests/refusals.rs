@@ -81,9 +81,7 @@ const SANDBOX: u8 = 11;
 #[test]
 fn instructions_outside_the_table_are_6_and_others_accepted() {
     for (code, limits) in (0u8..).zip(OPERAND_LIMITS) {
-        for (operand, byte) in
-            (0..3).flat_map(|operand| (0..=255u8).map(move |byte| (operand, byte)))
-        {
+        for (operand, byte) in (0..3).flat_map(|operand| (0..=255u8).map(move |byte| (operand, byte))) {
             let mut instruction = [code, 0, 0, u8::from(code == SANDBOX)];
             instruction[1 + operand] = byte;
             let no_size = code == SANDBOX && instruction[3] == 0;
