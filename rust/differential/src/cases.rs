@@ -23,10 +23,10 @@ pub fn run(comparison: &mut Comparison, seed: u64) -> Outcome {
     let after = accepted(comparison, rng, &image.bytes())?;
     accepted(comparison, rng, &after)?;
     damaged(comparison, rng, &image, seed)?;
-    if seed.is_multiple_of(LIMIT_EVERY) {
+    if seed % LIMIT_EVERY == 0 {
         turn_limit(comparison, rng, &image.bytes())?;
     }
-    if seed.is_multiple_of(SWEEP_EVERY) {
+    if seed % SWEEP_EVERY == 0 {
         sweep(comparison, rng)?;
     }
     Ok(())

@@ -58,7 +58,7 @@ impl Comparison {
             let made = [first, second].map(|made| format!("{:?} {}", made.answer, hex(&made.output[AROUND..])));
             return Err(self.mismatch(fault, &format!("{call:?}, output of {room} bytes"), image, made));
         }
-        self.tally.call(call, first.answer.number);
+        self.tally.call(call, first.answer);
         let bytes = first.output[AROUND..][..first.answer.length].to_vec();
         Ok(Agreed { answer: first.answer, bytes })
     }

@@ -19,7 +19,7 @@ const fn fault(number: u8, name: &'static str, apply: fn(&mut Rng, &mut Image) -
 }
 
 /// Every fault.
-pub const FAULTS: [Fault; 27] = [
+pub const FAULTS: [Fault; 28] = [
     fault(3, "cut", cut),
     fault(3, "cut by one byte", cut_by_one),
     fault(4, "version", version),
@@ -46,7 +46,8 @@ pub const FAULTS: [Fault; 27] = [
     fault(10, "five messages of a label among others", five_of_full_mailbox),
     fault(11, "one byte of tail", |rng, image| tail(rng, image, 1)),
     fault(11, "tail", long_tail),
-    fault(12, "used slot in a spare", spare_over_used),
+    fault(12, "used slot at the end of a spare", |rng, image| spare_over_used(rng, image, 0)),
+    fault(12, "used slot within a spare", |rng, image| spare_over_used(rng, image, SLOTS)),
 ];
 
 fn set<T>(field: &mut Option<T>, value: T) -> bool {
@@ -200,16 +201,14 @@ fn long_tail(rng: &mut Rng, image: &mut Image) -> bool {
     tail(rng, image, length)
 }
 
-/// Gives a task a spare that covers a used slot and ends at slot 15 at the latest.
-fn spare_over_used(rng: &mut Rng, image: &mut Image) -> bool {
+/// Gives a task a spare that covers the next used slot, and up to `more` slots behind that.
+fn spare_over_used(rng: &mut Rng, image: &mut Image, more: usize) -> bool {
     let used = image.used();
-    let first = rng.below(used.len());
-    let Some(&[slot, next]) = used.get(first..first + 2).and_then(|pair| <&[usize; 2]>::try_from(pair).ok()) else {
-        return false;
-    };
-    let spare = rng.between(next - slot, SLOTS - 1 - slot);
+    let first = rng.below(used.len().saturating_sub(1));
+    let (Some(&slot), Some(&next)) = (used.get(first), used.get(first + 1)) else { return false };
+    let last = next + rng.below(more.min(SLOTS - 1 - next) + 1);
     if let Some(task) = &mut image.slots[slot] {
-        task.spare = spare as u8;
+        task.spare = (last - slot) as u8;
     }
     true
 }

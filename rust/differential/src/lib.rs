@@ -1,5 +1,7 @@
 //! Compares the monitor with the reference interpreter on made-up images, and tries the secrecy rule on both.
 
+#![forbid(unsafe_code)]
+
 pub mod calls;
 pub mod cases;
 pub mod compare;

@@ -1,6 +1,8 @@
 //! Compares the monitor with the reference interpreter seed by seed, and stops at the first difference.
 //! Usage: differential [--first SEED] [--seeds N] [--slotsheet PROGRAM]
 
+#![forbid(unsafe_code)]
+
 use differential::calls::BOTH;
 use differential::compare::Comparison;
 use differential::report::Mismatch;
@@ -20,7 +22,7 @@ struct Options {
 }
 
 fn options(mut arguments: impl Iterator<Item = OsString>) -> Option<Options> {
-    let mut options = Options { first: 0, seeds: 10_000, slotsheet: None };
+    let mut options = Options { first: 0, seeds: 6_000, slotsheet: None };
     while let Some(name) = arguments.next() {
         let value = arguments.next()?;
         match name.to_str()? {
@@ -59,7 +61,7 @@ fn main() -> ExitCode {
     match run(&options) {
         Err(mismatch) => eprintln!("differential: {mismatch}"),
         Ok(missing) if missing.is_empty() => return ExitCode::SUCCESS,
-        Ok(missing) => missing.iter().for_each(|missing| eprintln!("differential: too little was compared: {missing}")),
+        Ok(missing) => missing.iter().for_each(|missing| eprintln!("differential: {missing}")),
     }
     ExitCode::FAILURE
 }

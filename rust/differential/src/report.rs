@@ -1,6 +1,7 @@
 //! What was compared, by call and number: the table that is printed, and the least that there must be.
 
 use crate::calls::Call;
+use reference::Answer;
 use std::fmt;
 
 /// The least number of calls in a run.
@@ -8,6 +9,10 @@ const CALLS_MIN: u64 = 200_000;
 
 /// The least number of calls with each number that a call may tell, and of records with each outcome.
 const EACH_MIN: u64 = 100;
+
+/// A call with at least so many busy turns is a long run, and the least number of them.
+const LONG_RUN: u64 = 100_000;
+const LONG_RUNS_MIN: u64 = 20;
 
 /// The calls that write, with the number that each may tell beside 0 and 3 to 13.
 const CALLS: [(&str, Option<usize>); 4] =
@@ -41,18 +46,20 @@ const OUTCOMES: [&str; 4] = ["found", "unused slot", "slot above 15", "refused i
 pub struct Tally {
     calls: [[u64; NUMBERS]; CALLS.len()],
     records: [u64; OUTCOMES.len()],
+    long_runs: u64,
 }
 
 impl Tally {
-    /// Counts a call that told that number.
-    pub fn call(&mut self, call: Call, number: u8) {
+    /// Counts a call by what it told.
+    pub fn call(&mut self, call: Call, answer: Answer) {
         let row = match call {
             Call::Rewrite => 0,
             Call::Turns(_) => 1,
             Call::View(_) => 2,
             Call::Sheet(_) => 3,
         };
-        self.calls[row][usize::from(number)] += 1;
+        self.calls[row][usize::from(answer.number)] += 1;
+        self.long_runs += u64::from(answer.busy >= LONG_RUN);
     }
 
     /// Counts a record.
@@ -67,6 +74,7 @@ impl Tally {
     /// What is missing for the run to count, or is there and may not be.
     pub fn shortfalls(&self) -> Vec<String> {
         let total = (self.total() < CALLS_MIN).then(|| format!("fewer than {CALLS_MIN} calls"));
+        let long_runs = (self.long_runs < LONG_RUNS_MIN).then(|| format!("fewer than {LONG_RUNS_MIN} long runs"));
         let cells = CALLS.iter().zip(&self.calls).flat_map(|(&(name, own), counts)| {
             counts.iter().enumerate().filter_map(move |(number, &count)| {
                 match number == 0 || number >= 3 || own == Some(number) {
@@ -78,7 +86,7 @@ impl Tally {
         });
         let records = OUTCOMES.iter().zip(self.records).filter(|&(_, count)| count < EACH_MIN);
         let records = records.map(|(name, _)| format!("record, {name}: fewer than {EACH_MIN} calls"));
-        total.into_iter().chain(cells).chain(records).collect()
+        total.into_iter().chain(long_runs).chain(cells).chain(records).collect()
     }
 }
 
@@ -91,7 +99,7 @@ impl fmt::Display for Tally {
             counts.iter().try_for_each(|count| write!(f, "{count:>8}"))?;
         }
         write!(f, "\nrecord: {}", list(&OUTCOMES, &self.records))?;
-        write!(f, "\n{} calls compared", self.total())
+        write!(f, "\n{} calls compared, {} of them with {LONG_RUN} busy turns or more", self.total(), self.long_runs)
     }
 }
 

@@ -7,6 +7,7 @@ use crate::rng::Rng;
 use std::ffi::OsStr;
 use std::fmt;
 use std::io::{self, Write};
+use std::path::Path;
 use std::process::{Command, Stdio};
 
 /// The longest input that is not refused for its length.
@@ -29,7 +30,8 @@ pub struct SlotsheetTally([u64; 14]);
 pub fn run(program: &OsStr) -> Result<SlotsheetTally, Mismatch> {
     let mut tally = SlotsheetTally::default();
     for input in (0..SEEDS).map(made_up).chain(of_limits()) {
-        let printed = print(program, &input).map_err(|error| Mismatch(format!("{}: {error}", program.display())))?;
+        let printed =
+            print(program, &input).map_err(|error| Mismatch(format!("{}: {error}", Path::new(program).display())))?;
         let expected = reference::slotsheet(&input);
         if printed != expected {
             let [printed, expected] = [printed, expected].map(|text| String::from_utf8_lossy(&text).into_owned());
@@ -46,7 +48,7 @@ pub fn run(program: &OsStr) -> Result<SlotsheetTally, Mismatch> {
 fn made_up(seed: u64) -> Vec<u8> {
     let rng = &mut Rng::new(seed);
     let mut image = images::accepted(rng);
-    if !seed.is_multiple_of(2) {
+    if seed % 2 == 1 {
         let fault = &FAULTS[(seed % FAULTS.len() as u64) as usize];
         (fault.apply)(rng, &mut image);
     }

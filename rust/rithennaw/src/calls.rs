@@ -117,11 +117,9 @@ fn allocated(room: usize, call: impl FnOnce(&mut [u8]) -> Result<usize, Refusal>
 
 /// What was told, or the refusal that its number names.
 fn outcome(told: Told) -> Result<TurnedInto, Refusal> {
-    match Refusal::try_from(told.number) {
-        Ok(refusal) => Err(refusal),
-        Err(_) if told.number == 0 => Ok(TurnedInto { length: told.length, busy: told.busy }),
-        Err(_) => {
-            unreachable!("librithennaw.a gave the number {}, which the scope document does not have", told.number)
-        }
+    if told.number == 0 {
+        return Ok(TurnedInto { length: told.length, busy: told.busy });
     }
+    // The archive's numbers are proved to be 0 to 13. Another one is no refusal of any input, and must not pass for one.
+    Err(Refusal::try_from(told.number).unwrap_or_else(|_| unreachable!("librithennaw.a told {}", told.number)))
 }

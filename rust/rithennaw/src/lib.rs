@@ -2,12 +2,17 @@
 //!
 //! Several owners' tasks run side by side. Each task has a [`Label`], the set of owners whose figures it may have touched.
 //! The monitor takes an image of all tasks as bytes, runs [`turns`], and gives each observer a [`view`] or a [`sheet`]. What
-//! an image means, what a turn does and what a view shows is proved; this crate only hands slices to the archive
-//! `librithennaw.a`, which `make lib` builds.
+//! an image means, what a turn does and what a view shows is proved; this crate hands slices to the archive
+//! `librithennaw.a` and adds nothing. The crate itself is tested and not proved.
 //!
 //! Every call takes any bytes and any numbers, so the caller checks nothing beforehand: what cannot be taken is refused with
-//! a [`Refusal`], and a refused call writes nothing. No call panics, whatever it is given. The calls keep nothing between
-//! them, and any number of threads may call at a time. A call takes up to 32,768 bytes of stack.
+//! a [`Refusal`], and a refused call writes nothing. No call panics, whatever it is given. Nothing is kept between calls, and
+//! any number of threads may call at a time. The stack that a call needs is `RITHENNAW_STACK` of include/rithennaw.h.
+//!
+//! # Build
+//!
+//! Depend on the crate by its path. `make lib`, at the root of the repository, builds the archive where the crate looks for
+//! it; an archive elsewhere is found by the environment variable `RITHENNAW_LIB_DIR`, which names its folder.
 //!
 //! # Example
 //!
