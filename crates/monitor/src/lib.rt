@@ -29,7 +29,7 @@ pub fn record_extent(image: &[u8], slot: u32) -> image::Extent
 }
 
 // What a refused call tells.
-fn refused(number: u8) -> Answer
+pub fn refused(number: u8) -> Answer
     ensures { λ r. ⌜ r ≡ refusal number ⌝ }
 {
     Answer {

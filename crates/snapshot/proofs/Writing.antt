@@ -1,5 +1,5 @@
 -- The parts of a view: what is written of a message, a task and a slot, and how long it is.
-use Prim.Native.Nat.{ℕ, _+_}
+use Prim.Native.Nat.{ℕ, _+_, _*_}
 use mathlib.Core.Logic.{_≢_}
 use mathlib.Core.Path.{_≡_, refl, sym, ap, _∙_}
 use mathlib.Core.Bool.{Bool, true, false, not, _&&_}
@@ -13,9 +13,9 @@ use Rattle.label.specs.Label.{flows}
 use Rattle.wire.specs.Lists.{keep}
 use Rattle.wire.specs.Numbers.{encodeNumber}
 use Rattle.wire.specs.Items.{encodeItems}
-use Rattle.wire.proofs.Items.{items-map, items-keep}
+use Rattle.wire.proofs.Items.{items-map, items-keep, length-items}
 use Rattle.machine.specs.State.{Message, Task, Slot, unused, used, slotAt}
-use Rattle.machine.specs.View.{viewSlot, view}
+use Rattle.machine.specs.View.{viewTask, viewSlot, view}
 use Rattle.image.specs.Record.{messageBytes}
 use Rattle.image.specs.Image.{programOf, slotBytes, imageBytes}
 use Rattle.image.proofs.Records.{length-registers}
@@ -36,6 +36,16 @@ module _ (v : ℕ) (m : Message) {label : ℕ} {seen : Bool} (l : label ≡ m .l
   unfolding shownMessage
   message-hidden e = rw (← l, ← s, e)
 
+-- ---- a mailbox: the messages that the observer sees, six bytes each
+
+module _ (v : ℕ) (t : Task) where
+  mailbox-shown : encodeItems messageBytes (keep (λ m. flows (m .label) v) (t .mailbox)) ≡ encodeItems (shownMessage v) (t .mailbox)
+  unfolding shownMessage
+  mailbox-shown = items-keep messageBytes (λ m. flows (m .label) v) (t .mailbox)
+
+  pub mailbox-length : 6 * length (viewTask (λ l. flows l v) t .mailbox) ≡ length (encodeItems (shownMessage v) (t .mailbox))
+  mailbox-length = sym (length-items messageBytes 6 (λ m. refl) (keep (λ m. flows (m .label) v) (t .mailbox))) ∙ ap length mailbox-shown
+
 -- ---- a task: its record's length, its fields, its registers and its messages
 
 module _ (v : ℕ) (t : Task) (eight : length (t .registers) ≡ 8) where
@@ -45,10 +55,6 @@ module _ (v : ℕ) (t : Task) (eight : length (t .registers) ≡ 8) where
   abbrev mailbox : List ℕ
   mailbox = encodeItems (shownMessage v) (t .mailbox)
 
-  mailbox-shown : encodeItems messageBytes (keep (λ m. flows (m .label) v) (t .mailbox)) ≡ mailbox
-  unfolding shownMessage
-  mailbox-shown = items-keep messageBytes (λ m. flows (m .label) v) (t .mailbox)
-
   record-length : length (registers ++ mailbox) ≡ 32 + length mailbox
   record-length = omega (arith, length-append registers mailbox, length-registers (t .registers))
 
@@ -56,7 +62,7 @@ module _ (v : ℕ) (t : Task) (eight : length (t .registers) ≡ 8) where
   unfolding shownTask
   task-shown =
       let size : length ((t .kind ∷ t .label ∷ t .spare ∷ encodeNumber 2 (t .pc)) ++ registers ++ mailbox) ≡ 37 + length mailbox = omega (arith, record-length) in
-      rw mailbox-shown (ap (λ (n : ℕ). encodeNumber 2 n ++ (t .kind ∷ t .label ∷ t .spare ∷ encodeNumber 2 (t .pc)) ++ registers ++ mailbox) size)
+      rw (mailbox-shown v t) (ap (λ (n : ℕ). encodeNumber 2 n ++ (t .kind ∷ t .label ∷ t .spare ∷ encodeNumber 2 (t .pc)) ++ registers ++ mailbox) size)
 
   pub task-length : length (shownTask v t) ≡ 39 + length mailbox
   task-length = rw task-shown (omega (arith, record-length))

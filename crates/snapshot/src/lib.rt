@@ -6,7 +6,9 @@ ghost use lib.ListN.{length, set};
 ghost use Rattle.wire.specs.Numbers.{encodeNumber};
 ghost use Rattle.wire.specs.Items.{encodeItems};
 ghost use Rattle.wire.specs.Output.{overwrite, written};
+ghost use Rattle.label.specs.Label.{flows};
 ghost use Rattle.machine.specs.State.{used, slotAt};
+ghost use Rattle.machine.specs.View.{viewTask};
 ghost use Rattle.image.specs.Record.{taskOf, slotOf, messageBytes, messageSize};
 ghost use Rattle.image.specs.Image.{slotsOf, imageNumber};
 ghost use Rattle.table.specs.Table.{slotsIn};
@@ -105,6 +107,29 @@ pub fn load(table: &mut [u32; 3328], image: &[u8]) -> u8
     number
 }
 
+// ---- what an observer sees
+
+// Whether the observer sees a task in a slot.
+pub fn is_shown(table: &[u32; 3328], slot: usize, observer: u8) -> bool
+    ensures { λ r. ⌜ r ≡ isShown observer (slotAt (slotsIn (now (table .entry))) slot) ⌝ }
+{
+    (table::kind(table, slot) != 0) & label::flows(table::label(table, slot), observer)
+}
+
+// How many messages of a mailbox the observer sees.
+pub fn mail_shown(table: &[u32; 3328], slot: usize, observer: u8) -> usize
+    ensures { λ r. ⌜ (r ≡ length (viewTask (λ l. flows l observer) (taskAt (slotsIn (now (table .entry))) slot) .mailbox)) × (r ≤ 64) ⌝ }
+{
+    let count = table::mailbox_length(table, slot);
+    let mut n: usize = 0;
+    let mut i: usize = 0;
+    while i < count {
+        n += label::flows(table::message_label(table, slot, i), observer) as usize;
+        i += 1;
+    }
+    n
+}
+
 // ---- sizes in bytes, known before the first byte is written
 
 // Where the registers and the mailbox of a slot begin, behind the length of its record.
@@ -112,36 +137,11 @@ const REGISTERS_FROM: usize = 2 + image::REGISTERS_AT;
 
 const MAILBOX_FROM: usize = 2 + image::MAILBOX_AT;
 
-// Whether the observer sees a task in a slot.
-fn is_shown(table: &[u32; 3328], slot: usize, observer: u8) -> bool
-    ensures { λ r. ⌜ r ≡ isShown observer (slotAt (slotsIn (now (table .entry))) slot) ⌝ }
-{
-    (table::kind(table, slot) != 0) & label::flows(table::label(table, slot), observer)
-}
-
-// How many bytes of a message the observer is shown.
-fn message_size(table: &[u32; 3328], slot: usize, i: usize, observer: u8) -> usize
-    ensures { λ r. ⌜ (r ≡ length (shownMessage observer (messageAt (slotsIn (now (table .entry))) slot i))) × (r ≤ 6) ⌝ }
-{
-    if label::flows(table::message_label(table, slot, i), observer) {
-        image::MESSAGE_SIZE
-    } else {
-        0
-    }
-}
-
 // How many bytes of a mailbox.
 fn mailbox_size(table: &[u32; 3328], slot: usize, observer: u8) -> usize
     ensures { λ r. ⌜ (r ≡ length (encodeItems (shownMessage observer) (taskAt (slotsIn (now (table .entry))) slot .mailbox))) × (r ≤ 384) ⌝ }
 {
-    let count = table::mailbox_length(table, slot);
-    let mut n: usize = 0;
-    let mut i: usize = 0;
-    while i < count {
-        n += message_size(table, slot, i, observer);
-        i += 1;
-    }
-    n
+    image::MESSAGE_SIZE * mail_shown(table, slot, observer)
 }
 
 // How many bytes of a slot, with the length in front.

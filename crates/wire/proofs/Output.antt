@@ -98,7 +98,7 @@ module _ {A : Type 0} (g : A → List ℕ) (xs : List A) (out₀ : List ℕ) whe
   items-none = record { bytes = []; long = refl; result = refl; to-come = refl; inside = omega arith; same = refl }
 
   module _ (room : length (encodeItems g xs) ≤ length out₀) {out : List ℕ} {at i : ℕ} (d : A) (more : i < length xs) (h : ItemsWritten out at i) where
-    item-room : at + length (g (getD xs i d)) ≤ length out
+    pub item-room : at + length (g (getD xs i d)) ≤ length out
     item-room =
         omega (
           arith,
@@ -130,7 +130,13 @@ module _ {A : Type 0} (g : A → List ℕ) (xs : List A) (out₀ : List ℕ) whe
           same = same;
         }
 
-  -- all of them
+  -- all of them: their bytes stand there, and they are `at` bytes
+  pub items-size : {out : List ℕ} {at i : ℕ} → length xs ≤ i → ItemsWritten out at i → at ≡ length (encodeItems g xs)
+  unfolding encodeItems
+  items-size {i = i} l h =
+      let none : length (encodeItems g (drop i xs)) ≡ 0 = rw (drop-of-length-le xs {i = i} l) in
+      omega (arith, h .long, ap length (h .to-come), length-append (h .bytes) (encodeItems g (drop i xs)))
+
   pub items-all : {out : List ℕ} {at i : ℕ} → length xs ≤ i → ItemsWritten out at i → out ≡ overwrite (encodeItems g xs) out₀
   unfolding encodeItems
   items-all {out} {at} {i} l h =

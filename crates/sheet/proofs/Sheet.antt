@@ -1,0 +1,109 @@
+-- Laws of the sheet: that of the table is that of the view, and how long it is at most.
+use Prim.Native.Nat.{ℕ, suc, _+_, _*_, _/_, _<_, _≤_}
+use mathlib.Core.Logic.{dite}
+use mathlib.Core.Path.{_≡_, refl, sym, ap, _∙_}
+use mathlib.Core.List.{List, [], _∷_, _++_, map}
+use native.Mathlib.Nat.{mul-suc}
+use native.Mathlib.Omega.{arith}
+use native.Mathlib.Decide.{decLt}
+use lib.ListN.{length, length-append, List·getD-map}
+use Rattle.wire.specs.Lists.{tabulate}
+use Rattle.wire.specs.Items.{encodeItems}
+use Rattle.wire.proofs.Tabulate.{length-tabulate}
+use Rattle.label.specs.Label.{flows}
+use Rattle.instruction.specs.Program.{count}
+use Rattle.machine.specs.State.{Task, Slot, unused, used, State, slotAt}
+use Rattle.machine.specs.View.{viewSlot, view as View·view}
+use Rattle.machine.specs.Machine.{view}
+use Rattle.machine.specs.Valid.{ValidSlot, Valid}
+use Rattle.machine.proofs.Rules.{size-facts, TaskFacts, task-facts}
+use Rattle.machine.proofs.Mailbox.{mailbox-64}
+use Rattle.table.specs.Table.{slotsIn}
+use Rattle.sheet.specs.Text.{ascii, decimal, spaced, lineRest}
+use Rattle.sheet.specs.Sheet.{heading, slotLine, slotLines, sheetText, refusalLine}
+use Rattle.sheet.specs.Shown.{shownLine, shownLines, shownSheet}
+use Rattle.sheet.proofs.Text.{length-digit, length-more, length-spaced, length-line}
+
+-- ---- the table's sheet
+
+pub sheet-shown : (v : ℕ) (words : List ℕ) (s : State) → slotsIn words ≡ s .slots → shownSheet v words ≡ sheetText (view v s)
+unfolding shownSheet shownLines shownLine sheetText slotLines View·view
+sheet-shown v words s loaded =
+    rw loaded
+    (ap (λ (g : ℕ → List ℕ). heading ++ encodeItems g (tabulate 16 (λ s. s)))
+    (λ i k. slotLine k (sym (List·getD-map (viewSlot (λ l. flows l v)) (s .slots) k unused) i)))
+
+-- ---- how long it is
+
+below-100 : (x : ℕ) → x < 100 → length (decimal x) ≤ 2
+below-100 x h =
+    dite (decLt x 10) (λ l. omega (arith, length-digit x l))
+    (λ l. let big : 10 ≤ x = omega arith in omega (arith, length-more x big, length-digit (x / 10) (omega arith)))
+
+below-1000 : (x : ℕ) → x < 1000 → length (decimal x) ≤ 3
+below-1000 x h =
+    dite (decLt x 10) (λ l. omega (arith, length-digit x l))
+    (λ l. let big : 10 ≤ x = omega arith in omega (arith, length-more x big, below-100 (x / 10) (omega arith)))
+
+numbers-more : (x : ℕ) (xs : List ℕ) → length (encodeItems spaced (x ∷ xs)) ≡ 1 + length (decimal x) + length (encodeItems spaced xs)
+unfolding encodeItems
+numbers-more x xs = omega (arith, length-append (spaced x) (encodeItems spaced xs), length-spaced x)
+
+-- a line of five numbers behind another
+line-length : (s kind label spare pc mail : ℕ)
+    → length (decimal s ++ lineRest (kind ∷ label ∷ spare ∷ pc ∷ mail ∷ []))
+    ≡ length (decimal s) + (length (decimal kind) + (length (decimal label) + (length (decimal spare) + (length (decimal pc) + length (decimal mail))))) + 6
+unfolding encodeItems
+line-length s kind label spare pc mail =
+    omega (
+      arith,
+      length-append (decimal s) (lineRest (kind ∷ label ∷ spare ∷ pc ∷ mail ∷ [])),
+      length-line (kind ∷ label ∷ spare ∷ pc ∷ mail ∷ []),
+      numbers-more kind (label ∷ spare ∷ pc ∷ mail ∷ []),
+      numbers-more label (spare ∷ pc ∷ mail ∷ []),
+      numbers-more spare (pc ∷ mail ∷ []),
+      numbers-more pc (mail ∷ []),
+      numbers-more mail [],
+    )
+
+-- eighteen bytes at most of a slot that keeps the rules
+slot-line-length : (n s : ℕ) (x : Slot) → n ≤ 256 → ValidSlot n s x → length (slotLine s x) ≤ 18
+unfolding slotLine
+slot-line-length n s unused h ok = omega arith
+slot-line-length n s (used t) h ok =
+    let f = task-facts n s t ok in
+    omega (
+      arith,
+      line-length s (t .kind) (t .label) (t .spare) (t .pc) (length (t .mailbox)),
+      below-100 s (omega (arith, f .spare)),
+      length-digit (t .kind) (omega (arith, f .kind-high)),
+      below-100 (t .label) (omega (arith, f .label)),
+      below-100 (t .spare) (omega (arith, f .spare)),
+      below-1000 (t .pc) (omega (arith, f .pc)),
+      below-100 (length (t .mailbox)) (omega (arith, mailbox-64 (t .mailbox) (f .mailbox))),
+    )
+
+items-most : {A : Type 0} (g : A → List ℕ) (w : ℕ) → ((x : A) → length (g x) ≤ w) → (xs : List A) → length (encodeItems g xs) ≤ w * length xs
+unfolding encodeItems
+items-most g w most [] = omega arith
+items-most g w most (x ∷ xs) =
+    let ih = items-most g w most xs in
+    let e : w * suc (length xs) ≡ w + w * length xs = rw mul-suc (omega arith) in
+    rw (length-append, e) (omega (arith, most x, ih))
+
+pub sheet-length : (s : State) → Valid s → length (sheetText s) ≤ 318
+unfolding sheetText slotLines heading ascii tabulate
+sheet-length s ok =
+    let n : count (s .program) ≤ 256 = omega (arith, size-facts (length (s .program)) (ok .size)) in
+    let lines = items-most (λ k. slotLine k (slotAt (s .slots) k)) 18 (λ k. slot-line-length (count (s .program)) k (slotAt (s .slots) k) n (ok .tasks k)) (tabulate 16 (λ k. k)) in
+    rw length-append (omega (arith, lines))
+
+-- ---- a refusal
+
+pub refusal-parts : (n : ℕ) → refusalLine n ≡ ascii "refused" ++ lineRest (n ∷ [])
+unfolding refusalLine
+refusal-parts n = refl
+
+pub refusal-length : (n : ℕ) → n < 1000 → length (refusalLine n) ≤ 12
+unfolding refusalLine ascii tabulate encodeItems
+refusal-length n h = omega (arith, length-line (n ∷ []), numbers-more n [], below-1000 n h)

@@ -1,0 +1,68 @@
+-- `sheet::write` meets its contract: an accepted image is loaded, and the sheet of the table's tasks written.
+use borrow.Author.Needs.{needs}
+use mathlib.Core.Path.{_≡_, refl, sym, _∙_}
+use native.Mathlib.Omega.{arith}
+use borrow.Author.Tests.{le-leb, lt-leb}
+use denote.Ref.{now}
+use lib.ListN.{length}
+use Rattle.wire.specs.Lists.{IsByte}
+use Rattle.wire.proofs.Lists.{every-of}
+use Rattle.machine.specs.Machine.{view}
+use Rattle.machine.proofs.Machine.{view-valid}
+use Rattle.image.specs.Image.{imageNumber, stateOf}
+use Rattle.image.proofs.Image.{accepted-valid}
+use Rattle.snapshot.proofs.Loading.{loaded-accepted}
+use Rattle.monitor.proofs.Calls.{call-beyond, call-refused, call-accepted}
+use Rattle.sheet.specs.Sheet.{sheetBytes}
+use Rattle.sheet.specs.Shown.{shownSheet}
+use Rattle.sheet.proofs.Sheet.{sheet-shown, sheet-length}
+use Rattle.sheet.proofs.write.Statement.{statement}
+use Rattle.sheet.proofs.write.Tie as tie
+
+-- an observer above 15
+returns : tie.Need-returns
+returns c =
+    let above = lt-leb (c .before .before .before .before .args .observer) 15 (omega arith) in
+    call-beyond _ _ _ 0 (rw above) (c .refused .ensures)
+
+-- an accepted image: the number, and the sheet of the table
+accepted : (c : tie.Then2) → imageNumber (now (c .before .before .before .before .before .before .args .image)) ≡ 0
+accepted c = sym (c .before .load .ensures .0) ∙ c .if2 .taken
+
+same : (c : tie.Then2) → let a = c .before .before .before .before .before .before .args in shownSheet (a .observer) (c .before .load .last .0) ≡ sheetBytes (a .observer) (now (a .image))
+same c =
+    let a = c .before .before .before .before .before .before .args in
+    sheet-shown (a .observer) (c .before .load .last .0) (stateOf (now (a .image))) (c .before .load .ensures .1 ∙ loaded-accepted (now (a .image)) _ (accepted c))
+
+write-answer-requires : tie.Need-write-answer-requires
+write-answer-requires c κs =
+    let t = c .before .before in
+    let a = c .before .before .before .before .before .before .before .before .args in
+    let bytes = every-of IsByte 0 (now (a .image)) (λ i. c .before .before .before .before .before .before .before .shared-slice-known .given i .fits) in
+    rw (same t) (sheet-length (view (a .observer) (stateOf (now (a .image)))) (view-valid (a .observer) (stateOf (now (a .image))) (accepted-valid (now (a .image)) bytes (accepted t))))
+
+returns-2 : tie.Need-returns-2
+returns-2 c =
+    let t = c .before .before .before .before .before in
+    let seen = le-leb (c .before .before .before .before .before .before .before .before .before .before .before .args .observer) 15 (omega arith) in
+    call-accepted _ _ _ (rw seen) (accepted t) (same t) refl (c .before .before .write-answer .ensures)
+
+-- a refused one
+returns-3 : tie.Need-returns-3
+returns-3 c =
+    let seen = le-leb (c .before .before .before .before .before .before .before .args .observer) 15 (omega arith) in
+    call-refused _ _ _ (rw seen) (c .before .before .load .ensures .0) (c .before .if2 .left) (c .refused2 .ensures)
+
+pub write-spec : {M : Type 1} → statement M
+write-spec =
+    tie.close
+    (tie.spec
+    (λ c κs. tt)
+    returns
+    (λ c κs. tt)
+    (λ c. search needs)
+    write-answer-requires
+    (λ c κs. tt)
+    (λ c. search needs)
+    returns-2
+    returns-3)

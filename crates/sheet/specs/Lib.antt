@@ -1,0 +1,4 @@
+-- The definitions of the crate `sheet`, a file each.
+pub mod Text
+pub mod Sheet
+pub mod Shown

@@ -1,0 +1,24 @@
+-- The sheet of the tasks in the table as an observer sees them, and its lines.
+use Prim.Native.Nat.{ℕ}
+use mathlib.Core.List.{List, _++_}
+use Rattle.wire.specs.Lists.{tabulate}
+use Rattle.wire.specs.Items.{encodeItems}
+use Rattle.label.specs.Label.{flows}
+use Rattle.machine.specs.State.{Task, Slot, used, slotAt}
+use Rattle.machine.specs.View.{viewTask, viewSlot}
+use Rattle.table.specs.Table.{slotsIn}
+use Rattle.sheet.specs.Sheet.{heading, slotLine}
+
+-- the line of a task that is in the view for label v, and of slot s
+unfoldable pub shownTaskLine : ℕ → ℕ → Task → List ℕ
+shownTaskLine v s t = slotLine s (used (viewTask (λ l. flows l v) t))
+
+unfoldable pub shownLine : ℕ → List Slot → ℕ → List ℕ
+shownLine v ss s = slotLine s (viewSlot (λ l. flows l v) (slotAt ss s))
+
+-- the lines of all slots, and the whole sheet
+unfoldable pub shownLines : ℕ → List Slot → List ℕ
+shownLines v ss = encodeItems (shownLine v ss) (tabulate 16 (λ s. s))
+
+unfoldable pub shownSheet : ℕ → List ℕ → List ℕ
+shownSheet v words = heading ++ shownLines v (slotsIn words)

@@ -1,0 +1,194 @@
+// The observer sheet as text: the call that writes it, and what the program `slotsheet` prints.
+ghost use Prim.Native.Nat.{_≤_};
+ghost use mathlib.Core.Path.{_≡_};
+ghost use lib.ListN.{length};
+ghost use Rattle.wire.specs.Items.{encodeItems};
+ghost use Rattle.wire.specs.Output.{overwrite, written};
+ghost use Rattle.table.specs.Table.{slotsIn};
+ghost use Rattle.table.specs.Change.{taskAt};
+ghost use Rattle.monitor.specs.Calls.{outputAnswer};
+ghost use Rattle.sheet.specs.Text.{decimal, spaced, lineRest};
+ghost use Rattle.sheet.specs.Sheet.{refusalLine, sheetAnswer, sheetOutput, printed};
+ghost use Rattle.sheet.specs.Shown.{shownTaskLine, shownLine, shownLines, shownSheet};
+
+// The longest sheet, in bytes: the heading, and sixteen lines of eighteen.
+pub const SHEET_MAX: usize = 318;
+
+// The longest input that the program takes.
+const INPUT_MAX: usize = 8192;
+
+// ---- numbers
+
+// Writes a number in decimal: how many digits.
+fn put_decimal(out: &mut [u8], x: u32) -> usize
+    requires { ⌜ length (decimal x) ≤ length (now out) ⌝ }
+    ensures { λ r. ⌜ (r ≡ length (decimal x)) × (now (out .exit) ≡ overwrite (decimal x) (now (out .entry))) ⌝ }
+{
+    if x < 10 {
+        out[0] = 48 + (x % 10) as u8;
+        1
+    } else {
+        let n = put_decimal(out, x / 10);
+        out[n] = 48 + (x % 10) as u8;
+        n + 1
+    }
+}
+
+// Writes a space and a number: how many bytes.
+fn put_spaced(out: &mut [u8], x: u32) -> usize
+    requires { ⌜ length (spaced x) ≤ length (now out) ⌝ }
+    ensures { λ r. ⌜ (r ≡ length (spaced x)) × (now (out .exit) ≡ overwrite (spaced x) (now (out .entry))) ⌝ }
+{
+    out[0] = b' ';
+    1 + put_decimal(&mut out[1..], x)
+}
+
+// Writes numbers, each behind a space: how many bytes.
+fn put_numbers(out: &mut [u8], numbers: &[u32]) -> usize
+    requires { ⌜ length (encodeItems spaced (now numbers)) ≤ length (now out) ⌝ }
+    ensures { λ r. ⌜ (r ≡ length (encodeItems spaced (now (numbers .entry))))
+        × (now (out .exit) ≡ overwrite (encodeItems spaced (now (numbers .entry))) (now (out .entry))) ⌝ }
+{
+    let mut at: usize = 0;
+    let mut i: usize = 0;
+    while i < numbers.len() {
+        at += put_spaced(&mut out[at..], numbers[i]);
+        i += 1;
+    }
+    at
+}
+
+// Writes the rest of a line, numbers and a line feed: how many bytes.
+fn put_line_rest(out: &mut [u8], numbers: &[u32]) -> usize
+    requires { ⌜ length (lineRest (now numbers)) ≤ length (now out) ⌝ }
+    ensures { λ r. ⌜ (r ≡ length (lineRest (now (numbers .entry))))
+        × (now (out .exit) ≡ overwrite (lineRest (now (numbers .entry))) (now (out .entry))) ⌝ }
+{
+    let n = put_numbers(out, numbers);
+    out[n] = b'\n';
+    n + 1
+}
+
+// ---- the sheet
+
+// Writes the line of a task that the observer sees: how many bytes.
+fn put_task_line(out: &mut [u8], table: &[u32; 3328], slot: u8, observer: u8) -> usize
+    requires { ⌜ length (shownTaskLine observer slot (taskAt (slotsIn (now table)) slot)) ≤ length (now out) ⌝ }
+    ensures { λ r. ⌜ (r ≡ length (shownTaskLine observer slot (taskAt (slotsIn (now (table .entry))) slot)))
+        × (now (out .exit) ≡ overwrite (shownTaskLine observer slot (taskAt (slotsIn (now (table .entry))) slot)) (now (out .entry))) ⌝ }
+{
+    let kind = table::kind(table, slot as usize);
+    let label = table::label(table, slot as usize);
+    let spare = table::spare(table, slot as usize);
+    let pc = table::pc(table, slot as usize);
+    let mail = snapshot::mail_shown(table, slot as usize, observer);
+    let fields: [u32; 5] = [kind as u32, label as u32, spare as u32, pc, mail as u32];
+    let n = put_decimal(out, slot as u32);
+    n + put_line_rest(&mut out[n..], &fields)
+}
+
+// Writes the line of a slot, where the observer sees a task in it: how many bytes.
+fn put_line(out: &mut [u8], table: &[u32; 3328], slot: u8, observer: u8) -> usize
+    requires { ⌜ length (shownLine observer (slotsIn (now table)) slot) ≤ length (now out) ⌝ }
+    ensures { λ r. ⌜ (r ≡ length (shownLine observer (slotsIn (now (table .entry))) slot))
+        × (now (out .exit) ≡ overwrite (shownLine observer (slotsIn (now (table .entry))) slot) (now (out .entry))) ⌝ }
+{
+    if snapshot::is_shown(table, slot as usize, observer) {
+        put_task_line(out, table, slot, observer)
+    } else {
+        0
+    }
+}
+
+// Writes the lines of all slots: how many bytes.
+fn put_lines(out: &mut [u8], table: &[u32; 3328], observer: u8) -> usize
+    requires { ⌜ length (shownLines observer (slotsIn (now table))) ≤ length (now out) ⌝ }
+    ensures { λ r. ⌜ (r ≡ length (shownLines observer (slotsIn (now (table .entry)))))
+        × (now (out .exit) ≡ overwrite (shownLines observer (slotsIn (now (table .entry)))) (now (out .entry))) ⌝ }
+{
+    let mut at: usize = 0;
+    let mut slot: u8 = 0;
+    while slot < 16 {
+        at += put_line(&mut out[at..], table, slot, observer);
+        slot += 1;
+    }
+    at
+}
+
+// Writes the heading and the lines: how many bytes.
+fn put_sheet(out: &mut [u8], table: &[u32; 3328], observer: u8) -> usize
+    requires { ⌜ length (shownSheet observer (now table)) ≤ length (now out) ⌝ }
+    ensures { λ r. ⌜ (r ≡ length (shownSheet observer (now (table .entry))))
+        × (now (out .exit) ≡ overwrite (shownSheet observer (now (table .entry))) (now (out .entry))) ⌝ }
+{
+    wire::copy(out, b"slot kind label spare pc mail\n");
+    30 + put_lines(&mut out[30..], table, observer)
+}
+
+// Ends a call whose image is accepted: writes the sheet of the table's tasks as the observer sees them, or tells 13 where
+// the output has no room for it.
+fn write_answer(out: &mut [u8], table: &[u32; 3328], observer: u8) -> monitor::Answer
+    requires { ⌜ length (shownSheet observer (now table)) ≤ 318 ⌝ }
+    ensures { λ r. ⌜ (r ≡ outputAnswer (shownSheet observer (now (table .entry))) 0 (now (out .entry)))
+        × (now (out .exit) ≡ written (shownSheet observer (now (table .entry))) (now (out .entry))) ⌝ }
+{
+    let mut text: [u8; SHEET_MAX] = [0; SHEET_MAX];
+    let length = put_sheet(&mut text, table, observer);
+    wire::copy(out, &text[..length]);
+    if length <= out.len() {
+        monitor::Answer {
+            number: 0,
+            length: length,
+            busy: 0,
+        }
+    } else {
+        monitor::refused(13)
+    }
+}
+
+// Writes the sheet of an image's view for an observer.
+pub fn write(image: &[u8], observer: u32, out: &mut [u8]) -> monitor::Answer
+    ensures { λ r. ⌜ (r ≡ sheetAnswer observer (now (image .entry)) (now (out .entry)))
+        × (now (out .exit) ≡ sheetOutput observer (now (image .entry)) (now (out .entry))) ⌝ }
+{
+    if observer > 15 {
+        return monitor::refused(1);
+    }
+    let mut table: [u32; 3328] = [0; 3328];
+    let number = snapshot::load(&mut table, image);
+    if number == 0 {
+        write_answer(out, &table, observer as u8)
+    } else {
+        monitor::refused(number)
+    }
+}
+
+// ---- what the program prints
+
+// Writes the line that tells a refusal: how many bytes.
+fn put_refusal(out: &mut [u8], number: u8) -> usize
+    requires { ⌜ length (refusalLine number) ≤ length (now out) ⌝ }
+    ensures { λ r. ⌜ (r ≡ length (refusalLine number)) × (now (out .exit) ≡ overwrite (refusalLine number) (now (out .entry))) ⌝ }
+{
+    wire::copy(out, b"refused");
+    7 + put_line_rest(&mut out[7..], &[number as u32])
+}
+
+// Writes all that the program prints for its standard input, an observer byte and then an image: how many bytes.
+pub fn print(input: &[u8], out: &mut [u8; SHEET_MAX]) -> usize
+    ensures { λ r. ⌜ (r ≡ length (printed (now (input .entry)))) × (r ≤ 318)
+        × (now (out .exit) ≡ overwrite (printed (now (input .entry))) (now (out .entry))) ⌝ }
+{
+    if input.len() > INPUT_MAX {
+        return put_refusal(out, 11);
+    }
+    if input.len() == 0 {
+        return put_refusal(out, 3);
+    }
+    let told = write(&input[1..], input[0] as u32, out);
+    if told.number == 0 {
+        told.length
+    } else {
+        put_refusal(out, told.number)
+    }
+}
