@@ -120,8 +120,8 @@ fn count_down() -> Program {
     vec![[SET, 0, 0, 1], [SET, 2, 0, 255], [ZERO, 2, 1, 0], [SUBTRACT, 2, 2, 0], [ADD, 3, 3, 2], [GO, 2, 0, 0]]
 }
 
-/// An image with tasks in its first slots, slot 0 being next. Register 1 of a task is the next task's slot, that of the last
-/// task 0; register 2 is a figure of its own.
+/// An image with tasks in its first slots, slot 0 being next. Register 1 of a task is the next task's slot, that of the
+/// last one 0; register 2 is a figure of its own.
 fn image(program: &[[u8; 4]], tasks: u8, task: impl Fn(u8) -> Task) -> Vec<u8> {
     let mut image = vec![1];
     image.extend((4 * program.len() as u16).to_be_bytes());
