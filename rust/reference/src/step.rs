@@ -14,7 +14,7 @@ enum Outcome {
     Wait,
     Stop(Kind),
     Deliver { to: u32, message: Message },
-    Spawn { slot: Slot, child: Task },
+    Spawn { child: Slot, start: Target, size: u8 },
 }
 
 /// Carries out `count` turns and tells how many met a live task.
@@ -46,9 +46,9 @@ fn turn(image: &mut Image<'_>) -> bool {
             task.place += 1;
             deliver(&mut image.tasks, to, message);
         }
-        Outcome::Spawn { slot, child } => {
+        Outcome::Spawn { child, start, size } => {
             task.place += 1;
-            image.tasks[slot.index()] = Some(child);
+            image.tasks[child.index()] = Some(task.child(start, size, slot));
         }
     }
     true
@@ -97,6 +97,7 @@ impl Task {
         Outcome::Next
     }
 
+    /// Checks the sender's label; what follows is the receiver's affair.
     fn send(&self, to: Register, label: Label, value: Register, own: Slot) -> Outcome {
         if !self.label.flows_to(label) {
             return Outcome::Stop(Kind::StoppedByLabel);
@@ -120,22 +121,27 @@ impl Task {
         own.plus(self.spare.checked_sub(size)? + 1)
     }
 
+    /// Gives part of the spare to a new task.
     fn sandbox(&mut self, register: Register, start: Target, size: u8, own: Slot) -> Outcome {
         let Some(slot) = self.child_slot(size, own) else {
             return Outcome::Stop(Kind::WantOfSpare);
         };
         self.spare -= size;
         self.registers.set(register, slot.number().into());
+        Outcome::Spawn { child: slot, start, size }
+    }
+
+    /// A new task of this size, whose parent is this one, which stands in `own`.
+    fn child(&self, start: Target, size: u8, own: Slot) -> Task {
         let mut registers = Registers::default();
         registers.set(Register::ZERO, own.number().into());
-        let child = Task {
+        Task {
             kind: Kind::Live,
             label: self.label,
             spare: size - 1,
             place: start.into(),
             registers,
             mailbox: Mailbox::new(),
-        };
-        Outcome::Spawn { slot, child }
+        }
     }
 }
