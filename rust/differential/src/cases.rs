@@ -11,7 +11,8 @@ use rithennaw::{IMAGE_MAX, TURNS_MAX};
 
 type Outcome = Result<(), Mismatch>;
 
-/// Seeds from one sweep over the bytes of an image to the next, and from one call with about 1,000,000 turns to the next.
+/// Seeds from one sweep over the bytes of an image to the next, and from one call with about 1,000,000 turns to the
+/// next.
 const SWEEP_EVERY: u64 = 256;
 const LIMIT_EVERY: u64 = 50;
 

@@ -102,8 +102,8 @@ fn make(implementation: Implementation, call: Call, image: &[u8], before: &[u8])
     Made { answer, output }
 }
 
-/// The rule of the scope document that both broke alike, if one: a refused call tells 0 and writes nothing, and an accepted
-/// one writes only the bytes of its answer.
+/// The rule of the scope document that both broke alike, if one: a refused call tells 0 and writes nothing, and an
+/// accepted one writes only the bytes of its answer.
 fn broken_rule(made: &Made, before: &[u8]) -> Option<&'static str> {
     let Answer { number, length, busy } = made.answer;
     let room = made.output.len() - 2 * AROUND;

@@ -26,8 +26,8 @@ pub struct Task {
     pub mail: Vec<Message>,
 }
 
-/// An image. A length in `program_length` or `record_lengths` stands in place of the true one, `tail` stands behind slot 15,
-/// and `cut` is the number of bytes that are left where some are cut off.
+/// An image. A length in `program_length` or `record_lengths` stands in place of the true one, `tail` stands behind
+/// slot 15, and `cut` is the number of bytes that are left where some are cut off.
 #[derive(Debug, Clone, Default, PartialEq, Eq)]
 pub struct Image {
     pub version: u8,

@@ -1,4 +1,5 @@
-//! Images that keep every rule, made to do much: few labels, registers that hold slot numbers, full mailboxes, large spares.
+//! Images that keep every rule, made to do much: few labels, registers that hold slot numbers, full mailboxes, large
+//! spares.
 
 use crate::image::{Image, Message, Task, MAIL_PER_LABEL, SLOTS};
 use crate::programs::{self, PROGRAM_MAX};

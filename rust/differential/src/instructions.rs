@@ -4,6 +4,7 @@ use crate::rng::Rng;
 
 pub const END: u8 = 0x00;
 pub const SET: u8 = 0x01;
+pub const COPY: u8 = 0x02;
 pub const ADD: u8 = 0x03;
 pub const SUBTRACT: u8 = 0x04;
 pub const GO: u8 = 0x05;

@@ -1,7 +1,7 @@
 //! Legal programs that do something: fragments that loop, send, receive, raise and make tasks, and random instructions.
 
 use crate::instructions::{
-    Operand, ADD, END, GO, OPERANDS, POLL, RAISE, SANDBOX, SELF, SEND, SET, SUBTRACT, TAKE, ZERO,
+    Operand, ADD, COPY, END, GO, OPERANDS, POLL, RAISE, SANDBOX, SELF, SEND, SET, SUBTRACT, TAKE, ZERO,
 };
 use crate::rng::Rng;
 
@@ -10,11 +10,12 @@ pub const PROGRAM_MAX: usize = 256;
 
 /// Codes by how often a random instruction has them: those that stop or raise a task less often than the others.
 const CODES: [u8; 24] = [
-    END, SET, SET, 0x02, ADD, ADD, SUBTRACT, GO, GO, ZERO, ZERO, RAISE, SEND, SEND, SEND, SEND, TAKE, TAKE, POLL, POLL,
+    END, SET, SET, COPY, ADD, ADD, SUBTRACT, GO, GO, ZERO, ZERO, RAISE, SEND, SEND, SEND, SEND, TAKE, TAKE, POLL, POLL,
     POLL, SANDBOX, SANDBOX, SELF,
 ];
 
-/// A legal instruction of a program of `n`. Its labels are often of `labels` or 15, so that some sends pass and some do not.
+/// A legal instruction of a program of `n`. Its labels are often of `labels` or 15, so that some sends pass and some
+/// do not.
 fn random_instruction(rng: &mut Rng, n: usize, labels: &[u8]) -> [u8; 4] {
     let code = rng.pick(&CODES);
     let [a, b, c] = OPERANDS[usize::from(code)].map(|operand| match operand {
@@ -27,7 +28,7 @@ fn random_instruction(rng: &mut Rng, n: usize, labels: &[u8]) -> [u8; 4] {
     [code, a, b, c]
 }
 
-/// A fragment that begins at place `at`: register 1 has a slot to send to, register 2 a value, register 7 is 1.
+/// A fragment that begins at place `at`. Register 1 has the slot to send to and register 2 a value.
 fn fragment(rng: &mut Rng, at: u8, label: u8, size: u8) -> Vec<[u8; 4]> {
     match rng.below(8) {
         // Sends to every slot, and on to slots that there are not.

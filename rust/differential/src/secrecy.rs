@@ -1,5 +1,5 @@
-//! The secrecy rule, demand 3: two images that show an observer the same, and two lists of turn calls with the same number of
-//! accepted turns, end in the same view, told and written.
+//! The secrecy rule, demand 3: two images that show an observer the same, and two lists of turn calls with the same
+//! number of accepted turns, end in the same view, told and written.
 
 use crate::calls::{Call, Implementation};
 use crate::pairs::{self, flows};
@@ -102,8 +102,8 @@ impl Trial<'_> {
         })
     }
 
-    /// Makes a call of both images, with outputs of equal length and content: it tells the same and leaves the same output,
-    /// and its number is `number`. Gives the length told.
+    /// Makes a call of both images, with outputs of equal length and content: it tells the same and leaves the same
+    /// output, and its number is `number`. Gives the length told.
     fn same(&self, rng: &mut Rng, call: Call, images: [&[u8]; 2], room: usize, number: u8) -> Result<usize, String> {
         let mut pattern = vec![0; room];
         rng.fill(&mut pattern);

@@ -6,7 +6,8 @@ use differential::slotsheet::SlotsheetTally;
 
 #[test]
 fn a_run_without_calls_lacks_every_count() {
-    // All calls and long runs; 0 and 3 to 13 for each of four calls, 2 for turns, 1 for view and sheet; four outcomes of record.
+    // All calls and long runs; 0 and 3 to 13 for each of four calls, 2 for turns, 1 for view and sheet; four outcomes
+    // of record.
     assert_eq!(Tally::default().shortfalls().len(), 2 + 4 * 12 + 3 + 4);
     // The observers 0 to 14 and the six facts.
     assert_eq!(SecrecyTally::default().shortfalls().len(), 15 + 6);

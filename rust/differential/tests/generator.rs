@@ -1,5 +1,5 @@
-//! The made-up images are what they are made for: accepted ones, ones with a fault that leads to its number, and tasks that
-//! do what tasks may do.
+//! The made-up images are what they are made for: accepted ones, ones with a fault that leads to its number, and
+//! tasks that do what tasks may do.
 
 use differential::calls::{Call, BOTH};
 use differential::damage::FAULTS;

@@ -22,8 +22,8 @@ pub struct TurnedInto {
     pub busy: u64,
 }
 
-/// The record of a slot: the part of the image that holds it. It is empty for an unused slot, a slot above 15 and a refused
-/// image.
+/// The record of a slot: the part of the image that holds it. It is empty for an unused slot, a slot above 15 and a
+/// refused image.
 pub fn record(image: &[u8], slot: impl Into<Slot>) -> &[u8] {
     image.get(record_range(image, slot)).unwrap_or_default()
 }
@@ -72,8 +72,8 @@ pub fn turns_into(image: &[u8], count: u64, out: &mut [u8]) -> Result<TurnedInto
     outcome(ffi::turns(image, count, out))
 }
 
-/// What an observer is shown: the image in which a task whose label doesn't flow to the observer's is written as unused, and
-/// messages whose labels don't are left out of the rest. A view is an accepted image itself.
+/// What an observer is shown: the image in which a task whose label doesn't flow to the observer's is written as
+/// unused, and messages whose labels don't are left out of the rest. A view is an accepted image itself.
 ///
 /// # Errors
 /// Refusals 1 and 3 to 12.
@@ -89,8 +89,8 @@ pub fn view_into(image: &[u8], observer: impl Into<Observer>, out: &mut [u8]) ->
     outcome(ffi::view(image, observer.into().number(), out)).map(|told| told.length)
 }
 
-/// The observer sheet: a heading and a line for each used slot of the observer's view, in ASCII. A line has the slot, the
-/// task's kind, label, spare and place, and the number of messages in the view.
+/// The observer sheet: a heading and a line for each used slot of the observer's view, in ASCII. A line has the slot,
+/// the task's kind, label, spare and place, and the number of messages in the view.
 ///
 /// # Errors
 /// Refusals 1 and 3 to 12.
@@ -120,6 +120,7 @@ fn outcome(told: Told) -> Result<TurnedInto, Refusal> {
     if told.number == 0 {
         return Ok(TurnedInto { length: told.length, busy: told.busy });
     }
-    // The archive's numbers are proved to be 0 to 13. Another one is no refusal of any input, and must not pass for one.
+    // The archive's numbers are proved to be 0 to 13. Another one is no refusal of any input, and must not pass for
+    // one.
     Err(Refusal::try_from(told.number).unwrap_or_else(|_| unreachable!("librithennaw.a told {}", told.number)))
 }

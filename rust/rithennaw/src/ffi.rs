@@ -22,10 +22,10 @@ mod archive {
     }
 }
 
-// What the header asks of pointers holds of every call below. A slice's pointer is not null, also where the slice is empty;
-// it is valid for the slice's length, and the bytes are set. `start`, `length` and `busy` are variables of the function
-// itself. A `&` and a `&mut` that live at the same time do not overlap, and neither overlaps those variables. The archive
-// keeps no pointer when it returns. It has no globals, so any thread may call.
+// What the header asks of pointers holds of every call below. A slice's pointer is not null, also where the slice is
+// empty; it is valid for the slice's length, and the bytes are set. `start`, `length` and `busy` are variables of the
+// function itself. A `&` and a `&mut` that live at the same time do not overlap, and neither overlaps those
+// variables. The archive keeps no pointer when it returns. It has no globals, so any thread may call.
 
 /// What a call that writes tells.
 pub struct Told {

@@ -25,8 +25,8 @@ impl Label {
         (0..4).filter(move |owner| self.0 >> owner & 1 == 1)
     }
 
-    /// Whether each owner in this label is also in `other`. A task receives the messages whose labels flow to its own, and
-    /// an observer sees the tasks and messages whose labels flow to its own.
+    /// Whether each owner in this label is also in `other`. A task receives the messages whose labels flow to its
+    /// own, and an observer sees the tasks and messages whose labels flow to its own.
     pub const fn flows_to(self, other: Label) -> bool {
         self.0 & !other.0 == 0
     }
@@ -62,8 +62,8 @@ impl fmt::Display for Label {
     }
 }
 
-/// The label for which a view or a sheet is asked. Any [`Label`] is one. So is any number, since the library judges it: one
-/// above 15 is refused with [`Refusal::Observer`](crate::Refusal::Observer).
+/// The label for which a view or a sheet is asked. Any [`Label`] is one. So is any number, since the library judges
+/// it: one above 15 is refused with [`Refusal::Observer`](crate::Refusal::Observer).
 #[derive(Debug, Clone, Copy, PartialEq, Eq, Hash)]
 pub struct Observer(u32);
 

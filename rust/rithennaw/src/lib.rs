@@ -1,23 +1,25 @@
 //! Safe calls to Rithennaw, a monitor that planning software embeds.
 //!
-//! Several owners' tasks run side by side. Each task has a [`Label`], the set of owners whose figures it may have touched.
-//! The monitor takes an image of all tasks as bytes, runs [`turns`], and gives each observer a [`view`] or a [`sheet`]. What
-//! an image means, what a turn does and what a view shows is proved; this crate hands slices to the archive
-//! `librithennaw.a` and adds nothing. The crate itself is tested and not proved.
+//! Several owners' tasks run side by side. Each task has a [`Label`], the set of owners whose figures it may have
+//! touched. The monitor takes an image of all tasks as bytes, runs [`turns`], and gives each observer a [`view`] or a
+//! [`sheet`]. What an image means, what a turn does and what a view shows is proved; this crate hands slices to the
+//! archive `librithennaw.a` and adds nothing. The crate itself is tested and not proved.
 //!
-//! Every call takes any bytes and any numbers, so the caller checks nothing beforehand: what cannot be taken is refused with
-//! a [`Refusal`], and a refused call writes nothing. No call panics, whatever it is given. Nothing is kept between calls, and
-//! any number of threads may call at a time. The stack that a call needs is `RITHENNAW_STACK` of include/rithennaw.h.
+//! Every call takes any bytes and any numbers, so the caller checks nothing beforehand: what cannot be taken is
+//! refused with a [`Refusal`], and a refused call writes nothing. No call panics, whatever it is given. Nothing is
+//! kept between calls, and any number of threads may call at a time. The stack that a call needs is `RITHENNAW_STACK`
+//! of include/rithennaw.h.
 //!
 //! # Build
 //!
-//! Depend on the crate by its path. `make lib`, at the root of the repository, builds the archive where the crate looks for
-//! it; an archive elsewhere is found by the environment variable `RITHENNAW_LIB_DIR`, which names its folder.
+//! Depend on the crate by its path. `make lib`, at the root of the repository, builds the archive where the crate
+//! looks for it; an archive elsewhere is found by the environment variable `RITHENNAW_LIB_DIR`, which names its
+//! folder.
 //!
 //! # Example
 //!
-//! Two tasks: slot 0 has touched owner 0's figures (label 1) and sends 700 to slot 1, which is public (label 0). Owner 0 is
-//! shown the task and its message. Owner 1 is shown neither.
+//! Two tasks: slot 0 has touched owner 0's figures (label 1) and sends 700 to slot 1, which is public (label 0).
+//! Owner 0 is shown the task and its message. Owner 1 is shown neither.
 //!
 //! ```
 //! use rithennaw::{record, sheet, turns, view, Label, Refusal};

@@ -1,4 +1,5 @@
-//! Every call in both forms: they agree, refuse what the scope document refuses, and take empty slices and extreme numbers.
+//! Every call in both forms: they agree, refuse what the scope document refuses, and take empty slices and extreme
+//! numbers.
 
 use rithennaw::{
     record, record_range, rewrite, rewrite_into, sheet, sheet_into, turns, turns_into, view, view_into, Label, Refusal,
