@@ -1,0 +1,137 @@
+//! What is compared for a seed: an accepted image with every call and output, then the image damaged in many ways.
+
+use crate::calls::Call;
+use crate::compare::Comparison;
+use crate::damage::{self, FAULTS};
+use crate::image::Image;
+use crate::images;
+use crate::report::Mismatch;
+use crate::rng::Rng;
+use rithennaw::{IMAGE_MAX, TURNS_MAX};
+
+type Outcome = Result<(), Mismatch>;
+
+/// Seeds from one sweep over the bytes of an image to the next, and from one call with about 1,000,000 turns to the
+/// next.
+const SWEEP_EVERY: u64 = 256;
+const LIMIT_EVERY: u64 = 50;
+
+/// Compares everything that belongs to a seed.
+pub fn run(comparison: &mut Comparison, seed: u64) -> Outcome {
+    comparison.begin(seed);
+    let rng = &mut Rng::new(seed);
+    let image = images::accepted(rng);
+    let after = accepted(comparison, rng, &image.bytes())?;
+    accepted(comparison, rng, &after)?;
+    damaged(comparison, rng, &image, seed)?;
+    if seed % LIMIT_EVERY == 0 {
+        turn_limit(comparison, rng, &image.bytes())?;
+    }
+    if seed % SWEEP_EVERY == 0 {
+        sweep(comparison, rng)?;
+    }
+    Ok(())
+}
+
+/// A number of turns: few, or more than the limit.
+fn count(rng: &mut Rng) -> u64 {
+    match rng.below(16) {
+        0 => rng.pick(&[TURNS_MAX + 1, 1 << 32, u64::MAX]),
+        1 => rng.pick(&[0, 1, 15, 16, 17]),
+        2..=5 => rng.below(40) as u64,
+        6 => rng.below(5_000) as u64,
+        _ => rng.below(600) as u64,
+    }
+}
+
+/// A label, or a number that is none: for an observer or a slot.
+fn label(rng: &mut Rng) -> u32 {
+    match rng.below(10) {
+        0 => rng.pick(&[16, 17, 255, 256, 65_536, u32::MAX - 1, u32::MAX]),
+        _ => rng.below(16) as u32,
+    }
+}
+
+/// The calls that write, each with an argument.
+fn calls(rng: &mut Rng) -> [Call; 4] {
+    [Call::Rewrite, Call::Turns(count(rng)), Call::View(label(rng)), Call::Sheet(label(rng))]
+}
+
+/// Every call of an accepted image with every output, and some records. Gives the image after the turns.
+fn accepted(comparison: &mut Comparison, rng: &mut Rng, image: &[u8]) -> Result<Vec<u8>, Mismatch> {
+    let mut after = image.to_vec();
+    for call in calls(rng) {
+        let room = IMAGE_MAX + rng.below(9);
+        let agreed = comparison.call(rng, call, image, room)?;
+        if agreed.answer.number != 0 {
+            continue;
+        }
+        let length = agreed.answer.length;
+        for room in [length, length - 1, rng.below(length), rng.between(length, IMAGE_MAX), 0] {
+            comparison.call(rng, call, image, room)?;
+        }
+        if let Call::Turns(_) = call {
+            after = agreed.bytes;
+        }
+    }
+    for _ in 0..3 {
+        comparison.record(image, label(rng))?;
+    }
+    Ok(after)
+}
+
+/// The image with each fault in turn, with two faults, with random changes, and random bytes.
+fn damaged(comparison: &mut Comparison, rng: &mut Rng, image: &Image, seed: u64) -> Outcome {
+    let fault = &FAULTS[(seed % FAULTS.len() as u64) as usize];
+    for faults in 1..=3 {
+        let mut image = image.clone();
+        (fault.apply)(rng, &mut image);
+        for _ in 1..faults {
+            let other = &FAULTS[rng.below(FAULTS.len())];
+            (other.apply)(rng, &mut image);
+        }
+        each_call(comparison, rng, &image.bytes())?;
+    }
+    let mut bytes = image.bytes();
+    damage::flip(rng, &mut bytes);
+    each_call(comparison, rng, &bytes)?;
+    let garbage = damage::garbage(rng);
+    each_call(comparison, rng, &garbage)
+}
+
+/// Every call of an image that may be refused, with an output that may be too short.
+fn each_call(comparison: &mut Comparison, rng: &mut Rng, image: &[u8]) -> Outcome {
+    for call in calls(rng) {
+        let room = rng.pick(&[0, 40, image.len(), IMAGE_MAX]);
+        comparison.call(rng, call, image, room)?;
+    }
+    comparison.record(image, label(rng))
+}
+
+/// Numbers of turns next to the limit.
+fn turn_limit(comparison: &mut Comparison, rng: &mut Rng, image: &[u8]) -> Outcome {
+    for count in [TURNS_MAX - 1, TURNS_MAX, TURNS_MAX + 1] {
+        comparison.call(rng, Call::Turns(count), image, IMAGE_MAX)?;
+    }
+    Ok(())
+}
+
+/// An image of middle length, cut at every byte, and with every byte in turn next to a limit.
+fn sweep(comparison: &mut Comparison, rng: &mut Rng) -> Outcome {
+    let mut image = images::accepted(rng).bytes();
+    while !(100..=400).contains(&image.len()) {
+        image = images::accepted(rng).bytes();
+    }
+    for at in 0..image.len() {
+        each_call(comparison, rng, &image[..at])?;
+        let mut changed = image.clone();
+        let byte = image[at];
+        for value in [0, 1, 5, 6, 7, 8, 12, 13, 15, 16, 255, byte.wrapping_add(1), byte.wrapping_sub(1)] {
+            changed[at] = value;
+            let calls = calls(rng);
+            let call = rng.pick(&calls);
+            comparison.call(rng, call, &changed, IMAGE_MAX)?;
+        }
+    }
+    Ok(())
+}

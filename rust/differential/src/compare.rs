@@ -1,0 +1,119 @@
+//! One call made of two implementations: what they tell, every byte of the output and around it, and the image.
+
+use crate::calls::{Call, Implementation};
+use crate::report::{hex, Mismatch, RecordOutcome, Tally};
+use crate::rng::Rng;
+use reference::Answer;
+use rithennaw::IMAGE_MAX;
+
+/// Bytes ahead of the output and behind it that no call may touch.
+const AROUND: usize = 32;
+
+/// What a call left: its answer, and the output with the bytes around it.
+struct Made {
+    answer: Answer,
+    output: Vec<u8>,
+}
+
+/// What both gave.
+pub struct Agreed {
+    pub answer: Answer,
+    /// The bytes of the answer.
+    pub bytes: Vec<u8>,
+}
+
+/// Compares calls of two implementations and counts them.
+pub struct Comparison {
+    implementations: [Implementation; 2],
+    seed: u64,
+    pub tally: Tally,
+}
+
+impl Comparison {
+    pub fn new(implementations: [Implementation; 2]) -> Comparison {
+        Comparison { implementations, seed: 0, tally: Tally::default() }
+    }
+
+    /// Names the seed that the images and arguments come from.
+    pub fn begin(&mut self, seed: u64) {
+        self.seed = seed;
+    }
+
+    /// Makes a call of both with an output of `room` bytes.
+    pub fn call(&mut self, rng: &mut Rng, call: Call, image: &[u8], room: usize) -> Result<Agreed, Mismatch> {
+        let mut before = vec![0; AROUND + room + AROUND];
+        rng.fill(&mut before);
+        let lent = image.to_vec();
+        let [first, second] = self.implementations.map(|implementation| make(implementation, call, &lent, &before));
+        let fault = if lent != image {
+            Some("the image has changed")
+        } else if first.answer != second.answer {
+            Some("different answers")
+        } else if first.output != second.output {
+            Some("different bytes")
+        } else {
+            broken_rule(&first, &before)
+        };
+        if let Some(fault) = fault {
+            let made = [first, second].map(|made| format!("{:?} {}", made.answer, hex(&made.output[AROUND..])));
+            return Err(self.mismatch(fault, &format!("{call:?}, output of {room} bytes"), image, made));
+        }
+        self.tally.call(call, first.answer);
+        let bytes = first.output[AROUND..][..first.answer.length].to_vec();
+        Ok(Agreed { answer: first.answer, bytes })
+    }
+
+    /// Asks both where the record of a slot stands.
+    pub fn record(&mut self, image: &[u8], slot: u32) -> Result<(), Mismatch> {
+        let lent = image.to_vec();
+        let [first, second] = self.implementations.map(|implementation| (implementation.record)(&lent, slot));
+        if first != second || lent != image {
+            let parts = [first, second].map(|part| format!("{part:?}"));
+            return Err(self.mismatch(
+                "different parts, or the image has changed",
+                &format!("Record({slot})"),
+                image,
+                parts,
+            ));
+        }
+        let refused = reference::rewrite(image, &mut [0; IMAGE_MAX]).number != 0;
+        self.tally.record(match (first.is_empty(), refused, slot > 15) {
+            (false, ..) => RecordOutcome::Found,
+            (true, true, _) => RecordOutcome::RefusedImage,
+            (true, false, true) => RecordOutcome::SlotAbove15,
+            (true, false, false) => RecordOutcome::UnusedSlot,
+        });
+        Ok(())
+    }
+
+    fn mismatch(&self, fault: &str, call: &str, image: &[u8], given: [String; 2]) -> Mismatch {
+        let [first, second] = self.implementations.map(|implementation| implementation.name);
+        let [gives, other_gives] = given;
+        let (seed, image) = (self.seed, hex(image));
+        Mismatch(format!("{fault}\nseed {seed}\ncall {call}\nimage {image}\n{first}: {gives}\n{second}: {other_gives}"))
+    }
+}
+
+/// Makes the call with an output amid a copy of `before`.
+fn make(implementation: Implementation, call: Call, image: &[u8], before: &[u8]) -> Made {
+    let mut output = before.to_vec();
+    let end = output.len() - AROUND;
+    let answer = (implementation.call)(call, image, &mut output[AROUND..end]);
+    Made { answer, output }
+}
+
+/// The rule of the scope document that both broke alike, if one: a refused call tells 0 and writes nothing, and an
+/// accepted one writes only the bytes of its answer.
+fn broken_rule(made: &Made, before: &[u8]) -> Option<&'static str> {
+    let Answer { number, length, busy } = made.answer;
+    let room = made.output.len() - 2 * AROUND;
+    if number != 0 && (length, busy) != (0, 0) {
+        Some("a refused call tells a length or a busy count")
+    } else if length > room {
+        Some("the answer is longer than the output")
+    } else if made.output[..AROUND] != before[..AROUND] || made.output[AROUND + length..] != before[AROUND + length..] {
+        Some("bytes outside the answer have changed")
+    } else {
+        None
+    }
+}

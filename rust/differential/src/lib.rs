@@ -1,0 +1,18 @@
+//! Compares the monitor with the reference interpreter on made-up images, and tries the secrecy rule on both.
+
+#![forbid(unsafe_code)]
+
+pub mod calls;
+pub mod cases;
+pub mod compare;
+pub mod damage;
+pub mod image;
+pub mod images;
+pub mod instructions;
+pub mod pairs;
+pub mod programs;
+pub mod report;
+pub mod rng;
+pub mod secrecy;
+pub mod secrecy_report;
+pub mod slotsheet;

@@ -1,0 +1,115 @@
+//! What was compared, by call and number: the table that is printed, and the least that there must be.
+
+use crate::calls::Call;
+use reference::Answer;
+use std::fmt;
+
+/// The least number of calls in a run.
+const CALLS_MIN: u64 = 200_000;
+
+/// The least number of calls with each number that a call may tell, and of records with each outcome.
+const EACH_MIN: u64 = 100;
+
+/// A call with at least so many busy turns is a long run, and the least number of them.
+const LONG_RUN: u64 = 100_000;
+const LONG_RUNS_MIN: u64 = 20;
+
+/// The calls that write, with the number that each may tell beside 0 and 3 to 13.
+const CALLS: [(&str, Option<usize>); 4] =
+    [("rewrite", None), ("turns", Some(2)), ("view", Some(1)), ("sheet", Some(1))];
+
+const NUMBERS: usize = 14;
+
+/// A difference: all that is known of it.
+#[derive(Debug)]
+pub struct Mismatch(pub String);
+
+impl fmt::Display for Mismatch {
+    fn fmt(&self, f: &mut fmt::Formatter<'_>) -> fmt::Result {
+        self.0.fmt(f)
+    }
+}
+
+/// What a record's part was, and why it was empty.
+#[derive(Debug, Clone, Copy)]
+pub enum RecordOutcome {
+    Found,
+    UnusedSlot,
+    SlotAbove15,
+    RefusedImage,
+}
+
+const OUTCOMES: [&str; 4] = ["found", "unused slot", "slot above 15", "refused image"];
+
+/// Counts of the calls that were compared.
+#[derive(Default)]
+pub struct Tally {
+    calls: [[u64; NUMBERS]; CALLS.len()],
+    records: [u64; OUTCOMES.len()],
+    long_runs: u64,
+}
+
+impl Tally {
+    /// Counts a call by what it told.
+    pub fn call(&mut self, call: Call, answer: Answer) {
+        let row = match call {
+            Call::Rewrite => 0,
+            Call::Turns(_) => 1,
+            Call::View(_) => 2,
+            Call::Sheet(_) => 3,
+        };
+        self.calls[row][usize::from(answer.number)] += 1;
+        self.long_runs += u64::from(answer.busy >= LONG_RUN);
+    }
+
+    /// Counts a record.
+    pub fn record(&mut self, outcome: RecordOutcome) {
+        self.records[outcome as usize] += 1;
+    }
+
+    fn total(&self) -> u64 {
+        self.calls.iter().flatten().chain(&self.records).sum()
+    }
+
+    /// What is missing for the run to count, or is there and may not be.
+    pub fn shortfalls(&self) -> Vec<String> {
+        let total = (self.total() < CALLS_MIN).then(|| format!("fewer than {CALLS_MIN} calls"));
+        let long_runs = (self.long_runs < LONG_RUNS_MIN).then(|| format!("fewer than {LONG_RUNS_MIN} long runs"));
+        let cells = CALLS.iter().zip(&self.calls).flat_map(|(&(name, own), counts)| {
+            counts.iter().enumerate().filter_map(move |(number, &count)| {
+                match number == 0 || number >= 3 || own == Some(number) {
+                    true if count < EACH_MIN => Some(format!("{name} told {number} in fewer than {EACH_MIN} calls")),
+                    false if count > 0 => Some(format!("{name} told {number}, which it never may")),
+                    _ => None,
+                }
+            })
+        });
+        let records = OUTCOMES.iter().zip(self.records).filter(|&(_, count)| count < EACH_MIN);
+        let records = records.map(|(name, _)| format!("record, {name}: fewer than {EACH_MIN} calls"));
+        total.into_iter().chain(long_runs).chain(cells).chain(records).collect()
+    }
+}
+
+impl fmt::Display for Tally {
+    fn fmt(&self, f: &mut fmt::Formatter<'_>) -> fmt::Result {
+        write!(f, "{:8}", "number")?;
+        (0..NUMBERS).try_for_each(|number| write!(f, "{number:>8}"))?;
+        for ((name, _), counts) in CALLS.iter().zip(&self.calls) {
+            write!(f, "\n{name:8}")?;
+            counts.iter().try_for_each(|count| write!(f, "{count:>8}"))?;
+        }
+        write!(f, "\nrecord: {}", list(&OUTCOMES, &self.records))?;
+        write!(f, "\n{} calls compared, {} of them with {LONG_RUN} busy turns or more", self.total(), self.long_runs)
+    }
+}
+
+/// Names with their counts.
+pub fn list(names: &[&str], counts: &[u64]) -> String {
+    let items: Vec<String> = names.iter().zip(counts).map(|(name, count)| format!("{name} {count}")).collect();
+    items.join(", ")
+}
+
+/// The bytes in hexadecimal.
+pub fn hex(bytes: &[u8]) -> String {
+    bytes.iter().map(|byte| format!("{byte:02x}")).collect()
+}

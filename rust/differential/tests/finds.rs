@@ -1,0 +1,136 @@
+//! Wrong implementations, each wrong in one thing, are found.
+
+use differential::calls::{Call, Implementation, MONITOR, REFERENCE};
+use differential::compare::Comparison;
+use differential::secrecy_report::SecrecyTally;
+use differential::{cases, secrecy};
+use reference::Answer;
+
+const SEEDS: u64 = 100;
+
+/// The reference interpreter with another way to answer calls.
+fn wrong(call: fn(Call, &[u8], &mut [u8]) -> Answer) -> Implementation {
+    Implementation { name: "wrong", call, ..REFERENCE }
+}
+
+fn right(call: Call, image: &[u8], out: &mut [u8]) -> Answer {
+    (REFERENCE.call)(call, image, out)
+}
+
+/// The first difference, as it is reported.
+fn difference(implementations: [Implementation; 2]) -> Option<String> {
+    let mut comparison = Comparison::new(implementations);
+    (0..SEEDS).find_map(|seed| cases::run(&mut comparison, seed).err()).map(|mismatch| mismatch.to_string())
+}
+
+fn found(wrong: Implementation) {
+    let report = difference([MONITOR, wrong]).expect("a difference");
+    for part in ["seed ", "\ncall ", "\nimage ", "\nmonitor: ", "\nwrong: "] {
+        assert!(report.contains(part), "no {part:?} in {report}");
+    }
+}
+
+#[test]
+fn right_ones_do_not_differ() {
+    assert_eq!(difference([MONITOR, REFERENCE]), None);
+}
+
+#[test]
+fn a_busy_count_of_one_more() {
+    found(wrong(|call, image, out| {
+        let answer = right(call, image, out);
+        Answer { busy: answer.busy + u64::from(answer.busy > 100), ..answer }
+    }));
+}
+
+#[test]
+fn a_length_of_a_refused_call() {
+    found(wrong(|call, image, out| {
+        let answer = right(call, image, out);
+        Answer { length: if answer.number == 13 { 1 } else { answer.length }, ..answer }
+    }));
+}
+
+#[test]
+fn a_byte_behind_the_answer() {
+    found(wrong(|call, image, out| {
+        let answer = right(call, image, out);
+        out.iter_mut().skip(answer.length.max(1)).take(1).for_each(|byte| *byte ^= 1);
+        answer
+    }));
+}
+
+#[test]
+fn a_byte_that_a_refused_call_writes() {
+    found(wrong(|call, image, out| {
+        let answer = right(call, image, out);
+        out.iter_mut().take(usize::from(answer.number != 0)).for_each(|byte| *byte ^= 1);
+        answer
+    }));
+}
+
+#[test]
+fn a_byte_that_both_write_behind_the_answer() {
+    let both = wrong(|call, image, out| {
+        let answer = right(call, image, out);
+        out.iter_mut().skip(answer.length).take(1).for_each(|byte| *byte ^= 1);
+        answer
+    });
+    let report = difference([both, both]).expect("a difference");
+    assert!(report.starts_with("bytes outside the answer have changed"), "{report}");
+}
+
+#[test]
+fn a_record_that_starts_elsewhere() {
+    found(Implementation {
+        name: "wrong",
+        record: |image, slot| {
+            let part = reference::record(image, slot);
+            if part.is_empty() {
+                part
+            } else {
+                part.start - 2..part.end
+            }
+        },
+        ..REFERENCE
+    });
+}
+
+/// A trial of the secrecy rule on that implementation alone fails.
+fn not_secret(wrong: Implementation) {
+    let mut tally = SecrecyTally::default();
+    let report = (0..SEEDS).find_map(|seed| secrecy::run(&mut tally, &[wrong], seed).err()).expect("a difference");
+    assert!(report.to_string().starts_with("secrecy of the wrong: "), "{report}");
+}
+
+#[test]
+fn a_view_that_shows_everything() {
+    not_secret(wrong(|call, image, out| match call {
+        Call::View(0..=15) => right(Call::Rewrite, image, out),
+        _ => right(call, image, out),
+    }));
+}
+
+#[test]
+fn a_view_that_shows_a_label_too_much() {
+    not_secret(wrong(|call, image, out| match call {
+        Call::View(observer @ 0..=14) => right(Call::View(observer + 1), image, out),
+        _ => right(call, image, out),
+    }));
+}
+
+#[test]
+fn turns_that_are_not_carried_out_when_tasks_are_busy() {
+    not_secret(wrong(|call, image, out| match right(call, image, out) {
+        answer if matches!(call, Call::Turns(_)) && answer.busy > 20 => right(Call::Turns(0), image, out),
+        answer => answer,
+    }));
+}
+
+#[test]
+fn images_that_are_refused_at_the_end() {
+    not_secret(wrong(|call, image, out| match call {
+        Call::Turns(1..=1_000_000) => Answer { number: 0, length: 0, busy: 0 },
+        _ => right(call, image, out),
+    }));
+}

@@ -1,0 +1,96 @@
+//! The made-up images are what they are made for: accepted ones, ones with a fault that leads to its number, and
+//! tasks that do what tasks may do.
+
+use differential::calls::{Call, BOTH};
+use differential::damage::FAULTS;
+use differential::image::{Image, SLOTS};
+use differential::images;
+use differential::instructions::OPERANDS;
+use differential::rng::Rng;
+use rithennaw::{record, turns, IMAGE_MAX, IMAGE_MIN};
+use std::collections::BTreeSet;
+
+/// The number that both tell of an image.
+fn numbers(image: &[u8]) -> [u8; 2] {
+    BOTH.map(|implementation| (implementation.call)(Call::Rewrite, image, &mut [0; IMAGE_MAX]).number)
+}
+
+fn made_up(seeds: u64) -> impl Iterator<Item = (Rng, Image)> {
+    (0..seeds).map(|seed| {
+        let mut rng = Rng::new(seed);
+        let image = images::accepted(&mut rng);
+        (rng, image)
+    })
+}
+
+#[test]
+fn images_are_accepted_from_the_shortest_to_the_longest() {
+    let lengths: BTreeSet<usize> = made_up(2_000)
+        .map(|(_, image)| {
+            assert_eq!(numbers(&image.bytes()), [0, 0], "{image:?}");
+            image.bytes().len()
+        })
+        .collect();
+    assert_eq!((lengths.first(), lengths.last()), (Some(&IMAGE_MIN), Some(&IMAGE_MAX)));
+}
+
+#[test]
+fn each_fault_alone_leads_to_its_number() {
+    for fault in &FAULTS {
+        let mut applied = 0;
+        for (mut rng, mut image) in made_up(300) {
+            if (fault.apply)(&mut rng, &mut image) {
+                applied += 1;
+                assert_eq!(numbers(&image.bytes()), [fault.number; 2], "{}: {image:?}", fault.name);
+            }
+        }
+        assert!(applied >= 50, "{} was applied {applied} times", fault.name);
+    }
+}
+
+#[test]
+fn programs_have_every_instruction() {
+    let mut counts = [0; OPERANDS.len()];
+    for (_, image) in made_up(500) {
+        image.program.iter().for_each(|instruction| counts[usize::from(instruction[0])] += 1);
+    }
+    assert!(counts.iter().all(|&count| count >= 100), "{counts:?}");
+}
+
+/// What became of a task in some turns, by its record before and after them.
+fn events(before: &[u8], after: &[u8]) -> Vec<String> {
+    let mut events = Vec::new();
+    match (before, after) {
+        ([], [_, ..]) => events.push("made".to_string()),
+        ([kind, label, ..], [new_kind, new_label, ..]) => {
+            if kind != new_kind {
+                events.push(format!("kind {new_kind}"));
+            }
+            if label != new_label {
+                events.push("raised".to_string());
+            }
+            if after.len() > before.len() {
+                events.push("received".to_string());
+            }
+            if after.len() < before.len() {
+                events.push("took".to_string());
+            }
+        }
+        _ => {}
+    }
+    events
+}
+
+#[test]
+fn tasks_stop_in_every_way_raise_send_take_and_make_tasks() {
+    let mut all: Vec<String> = Vec::new();
+    for (_, image) in made_up(1_000) {
+        let before = image.bytes();
+        let after = turns(&before, 600).expect("an accepted image").image;
+        (0..SLOTS as u32).for_each(|slot| all.extend(events(record(&before, slot), record(&after, slot))));
+    }
+    for event in ["kind 2", "kind 3", "kind 4", "kind 5", "made", "raised", "received", "took"] {
+        let count = all.iter().filter(|&other| other == event).count();
+        assert!(count >= 50, "{event}: {count} times");
+    }
+}

@@ -1,0 +1,113 @@
+//! A plain interpreter of document 01, written separately from the monitor and compared with it.
+
+#![forbid(unsafe_code)]
+#![deny(missing_docs)]
+
+mod image;
+mod instruction;
+mod label;
+mod mailbox;
+mod read;
+mod refusal;
+mod sheet;
+mod slot;
+mod step;
+mod task;
+#[cfg(test)]
+mod tests;
+mod write;
+
+use std::ops::Range;
+
+use image::Image;
+use label::Label;
+use refusal::Refusal;
+
+/// The most turns of one call.
+const TURN_LIMIT: u64 = 1_000_000;
+
+/// What a call that writes tells: document 01's number, the answer's length, the busy count.
+#[derive(Debug, Clone, Copy, PartialEq, Eq)]
+pub struct Answer {
+    /// 0 for an accepted call, else the number of its refusal.
+    pub number: u8,
+    /// How many bytes were written.
+    pub length: usize,
+    /// How many turns met a live task.
+    pub busy: u64,
+}
+
+/// Where a slot's record stands in the image; `0..0` for an unused slot, a slot number above 15
+/// or a refused image.
+pub fn record(image: &[u8], slot: u32) -> Range<usize> {
+    let Ok((_, records)) = read::read(image) else {
+        return 0..0;
+    };
+    let index = usize::try_from(slot).ok();
+    index.and_then(|index| records.get(index).cloned()).unwrap_or_default()
+}
+
+/// Writes an image again as it was read.
+pub fn rewrite(image: &[u8], out: &mut [u8]) -> Answer {
+    answer(rewritten(image), out)
+}
+
+/// Writes the image after `count` turns.
+pub fn turns(image: &[u8], count: u64, out: &mut [u8]) -> Answer {
+    answer(turned(image, count), out)
+}
+
+/// Writes the observer's view of an image.
+pub fn view(image: &[u8], observer: u32, out: &mut [u8]) -> Answer {
+    let view = visible(image, observer).map(|image| write::write(&image));
+    answer(view.map(|bytes| (bytes, 0)), out)
+}
+
+/// Writes the observer sheet: the heading and one line per used slot of the view.
+pub fn sheet(image: &[u8], observer: u32, out: &mut [u8]) -> Answer {
+    let sheet = visible(image, observer).map(|image| sheet::sheet(&image));
+    answer(sheet.map(|text| (text.into_bytes(), 0)), out)
+}
+
+/// All that the program `slotsheet` prints for this standard input.
+pub fn slotsheet(input: &[u8]) -> Vec<u8> {
+    sheet::split_input(input)
+        .and_then(|(observer, image)| visible(image, observer.into()))
+        .map_or_else(sheet::refusal_line, |image| sheet::sheet(&image))
+        .into_bytes()
+}
+
+/// The bytes of a call's answer and its busy count.
+type Outcome = Result<(Vec<u8>, u64), Refusal>;
+
+fn rewritten(image: &[u8]) -> Outcome {
+    let (image, _) = read::read(image)?;
+    Ok((write::write(&image), 0))
+}
+
+fn turned(image: &[u8], count: u64) -> Outcome {
+    if count > TURN_LIMIT {
+        return Err(Refusal::TurnLimit);
+    }
+    let (mut image, _) = read::read(image)?;
+    let busy = step::run(&mut image, count);
+    Ok((write::write(&image), busy))
+}
+
+/// The image with what the observer may not see left out.
+fn visible(image: &[u8], observer: u32) -> Result<Image<'_>, Refusal> {
+    let observer = u8::try_from(observer).ok().and_then(Label::new).ok_or(Refusal::Observer)?;
+    let (mut image, _) = read::read(image)?;
+    image.keep_visible(observer);
+    Ok(image)
+}
+
+/// Copies the bytes of an accepted call to the front of the output, if they fit.
+fn answer(outcome: Outcome, out: &mut [u8]) -> Answer {
+    let written = outcome.and_then(|(bytes, busy)| {
+        let front = out.get_mut(..bytes.len()).ok_or(Refusal::Output)?;
+        front.copy_from_slice(&bytes);
+        Ok(Answer { number: 0, length: bytes.len(), busy })
+    });
+    written.unwrap_or_else(|refusal| Answer { number: refusal.number(), length: 0, busy: 0 })
+}

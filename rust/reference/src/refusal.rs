@@ -1,0 +1,39 @@
+//! The numbers a caller may receive for a refused call.
+
+/// Why a call is refused; the value is document 01's number.
+#[derive(Debug, Clone, Copy, PartialEq, Eq)]
+pub enum Refusal {
+    /// The label asked for is above 15.
+    Observer = 1,
+    /// More than 1,000,000 turns.
+    TurnLimit = 2,
+    /// The image ends before the last byte of the field or part being read.
+    Short = 3,
+    /// The first byte isn't 1.
+    Version = 4,
+    /// The program length is no multiple of 4 from 4 to 1,024.
+    ProgramLength = 5,
+    /// An instruction isn't in the table, or an operand is outside it.
+    Instruction = 6,
+    /// The turn slot is above 15.
+    TurnSlot = 7,
+    /// A record length is neither 0 nor 37 + 6 × k, k at most 64.
+    RecordLength = 8,
+    /// Kind, label or place is out of range, or slot + spare is above 15.
+    TaskField = 9,
+    /// A message's label or sender is above 15, or five or more are of one label.
+    Mail = 10,
+    /// Bytes after slot 15; for the program `slotsheet`, more input than its buffer holds.
+    Tail = 11,
+    /// A used slot lies in another task's spare.
+    Estate = 12,
+    /// The output is shorter than the answer.
+    Output = 13,
+}
+
+impl Refusal {
+    /// Document 01's number.
+    pub fn number(self) -> u8 {
+        self as u8
+    }
+}

@@ -1,0 +1,147 @@
+//! The step rules: what a turn does.
+
+use crate::image::{Image, Tasks};
+use crate::instruction::{Instruction, Register, Target};
+use crate::label::Label;
+use crate::mailbox::{Mailbox, Message};
+use crate::slot::Slot;
+use crate::task::{Kind, Registers, Task};
+
+/// What becomes of the task's place, and what reaches beyond the task, after an instruction.
+enum Outcome {
+    Next,
+    Jump(u16),
+    Wait,
+    Stop(Kind),
+    Deliver { to: u32, message: Message },
+    Spawn { child: Slot, start: Target, size: u8 },
+}
+
+/// Carries out `count` turns and tells how many met a live task.
+pub fn run(image: &mut Image<'_>, count: u64) -> u64 {
+    let mut busy = 0;
+    for _ in 0..count {
+        busy += u64::from(turn(image));
+    }
+    busy
+}
+
+/// Carries out one turn and tells whether it met a live task.
+fn turn(image: &mut Image<'_>) -> bool {
+    let slot = image.turn_slot;
+    image.turn_slot = slot.successor();
+    let Some(task) = image.tasks[slot.index()].as_mut().filter(|task| task.is_live()) else {
+        return false;
+    };
+    let outcome = match image.program.get(usize::from(task.place)) {
+        Some(&instruction) => task.execute(instruction, slot),
+        None => Outcome::Stop(Kind::RanOff),
+    };
+    match outcome {
+        Outcome::Next => task.place += 1,
+        Outcome::Jump(place) => task.place = place,
+        Outcome::Wait => {}
+        Outcome::Stop(kind) => task.kind = kind,
+        Outcome::Deliver { to, message } => {
+            task.place += 1;
+            deliver(&mut image.tasks, to, message);
+        }
+        Outcome::Spawn { child, start, size } => {
+            task.place += 1;
+            image.tasks[child.index()] = Some(task.child(start, size, slot));
+        }
+    }
+    true
+}
+
+/// Puts the message into the mailbox of a live task with room for it, and else drops it.
+fn deliver(tasks: &mut Tasks, to: u32, message: Message) {
+    let receiver = Slot::new(to).and_then(|slot| tasks[slot.index()].as_mut());
+    if let Some(task) = receiver.filter(|task| task.is_live()) {
+        task.mailbox.push(message);
+    }
+}
+
+impl Task {
+    /// Carries out an instruction as far as it concerns this task, which stands in `own`.
+    fn execute(&mut self, instruction: Instruction, own: Slot) -> Outcome {
+        let registers = &mut self.registers;
+        match instruction {
+            Instruction::End => return Outcome::Stop(Kind::Done),
+            Instruction::Set { to, value } => registers.set(to, value.into()),
+            Instruction::Copy { to, from } => registers.set(to, registers.get(from)),
+            Instruction::Add { to, left, right } => {
+                registers.set(to, registers.get(left).wrapping_add(registers.get(right)));
+            }
+            Instruction::Subtract { to, left, right } => {
+                registers.set(to, registers.get(left).wrapping_sub(registers.get(right)));
+            }
+            Instruction::Go { target } => return Outcome::Jump(target.into()),
+            Instruction::Zero { tested, target } => {
+                if registers.get(tested) == 0 {
+                    return Outcome::Jump(target.into());
+                }
+            }
+            Instruction::Raise { label } => self.label = self.label.join(label),
+            Instruction::Send { to, label, value } => return self.send(to, label, value, own),
+            Instruction::Take { value, sender } => return self.take(value, sender, Outcome::Wait),
+            Instruction::Poll { value, sender, otherwise } => {
+                return self.take(value, sender, Outcome::Jump(otherwise.into()));
+            }
+            Instruction::Sandbox { slot, start, size } => return self.sandbox(slot, start, size, own),
+            Instruction::Own { label, slot } => {
+                registers.set(label, self.label.number().into());
+                registers.set(slot, own.number().into());
+            }
+        }
+        Outcome::Next
+    }
+
+    /// Checks the sender's label; what follows is the receiver's affair.
+    fn send(&self, to: Register, label: Label, value: Register, own: Slot) -> Outcome {
+        if !self.label.flows_to(label) {
+            return Outcome::Stop(Kind::StoppedByLabel);
+        }
+        let message = Message { label, sender: own, value: self.registers.get(value) };
+        Outcome::Deliver { to: self.registers.get(to), message }
+    }
+
+    /// Takes the oldest receivable message; `otherwise` is the outcome without one.
+    fn take(&mut self, value: Register, sender: Register, otherwise: Outcome) -> Outcome {
+        let Some(message) = self.mailbox.take(self.label) else {
+            return otherwise;
+        };
+        self.registers.set(value, message.value);
+        self.registers.set(sender, message.sender.number().into());
+        Outcome::Next
+    }
+
+    /// The slot of a new task of this size, if the spare holds it.
+    fn child_slot(&self, size: u8, own: Slot) -> Option<Slot> {
+        own.plus(self.spare.checked_sub(size)? + 1)
+    }
+
+    /// Gives part of the spare to a new task.
+    fn sandbox(&mut self, register: Register, start: Target, size: u8, own: Slot) -> Outcome {
+        let Some(slot) = self.child_slot(size, own) else {
+            return Outcome::Stop(Kind::WantOfSpare);
+        };
+        self.spare -= size;
+        self.registers.set(register, slot.number().into());
+        Outcome::Spawn { child: slot, start, size }
+    }
+
+    /// A new task of this size, whose parent is this one, which stands in `own`.
+    fn child(&self, start: Target, size: u8, own: Slot) -> Task {
+        let mut registers = Registers::default();
+        registers.set(Register::ZERO, own.number().into());
+        Task {
+            kind: Kind::Live,
+            label: self.label,
+            spare: size - 1,
+            place: start.into(),
+            registers,
+            mailbox: Mailbox::new(),
+        }
+    }
+}

@@ -1,0 +1,227 @@
+//! One image for each number and the order in which they are given.
+
+use super::{b, image_fields, live, ImageFields, TaskFields, END, ROOM, UNTOUCHED};
+use crate::{record, rewrite, sheet, turns, view, Answer};
+
+/// What a refused call tells.
+fn refused(number: u8) -> Answer {
+    Answer { number, length: 0, busy: 0 }
+}
+
+/// Every call that reads this image refuses it with this number and writes nothing.
+fn assert_refused(bytes: &[u8], number: u8) {
+    let expected = refused(number);
+    let mut out = [UNTOUCHED; ROOM];
+    assert_eq!(rewrite(bytes, &mut out), expected);
+    assert_eq!(turns(bytes, 3, &mut out), expected);
+    assert_eq!(view(bytes, 15, &mut out), expected);
+    assert_eq!(sheet(bytes, 15, &mut out), expected);
+    assert!(out.iter().all(|&byte| byte == UNTOUCHED));
+    assert!((0..17).all(|slot| record(bytes, slot) == (0..0)));
+}
+
+/// B with a change to its task in slot 5.
+fn b_with(change: fn(&mut TaskFields)) -> Vec<u8> {
+    let mut image = b();
+    change(image.task(5));
+    image.bytes()
+}
+
+/// The bytes with the one at this index replaced.
+fn with_byte(mut bytes: Vec<u8>, index: usize, byte: u8) -> Vec<u8> {
+    bytes[index] = byte;
+    bytes
+}
+
+#[test]
+fn short_images_are_3_wherever_they_are_cut() {
+    let mut image = b();
+    image.task(5).mail = vec![(0, 0, 1); 4];
+    let bytes = image.bytes();
+    for length in 0..bytes.len() {
+        assert_refused(&bytes[..length], 3);
+    }
+}
+
+#[test]
+fn other_versions_are_4() {
+    for version in [0, 2, 255] {
+        assert_refused(&with_byte(b().bytes(), 0, version), 4);
+    }
+}
+
+#[test]
+fn program_lengths_outside_the_rule_are_5() {
+    for length in [0u16, 1, 3, 5, 6, 7, 1022, 1025, 1028, 65535] {
+        let mut bytes = vec![1];
+        bytes.extend(length.to_be_bytes());
+        assert_refused(&bytes, 5);
+    }
+}
+
+/// By code, the least value that each operand may not have, in a program of two instructions.
+const OPERAND_LIMITS: [[u16; 3]; 13] = [
+    [1, 1, 1],
+    [8, 256, 256],
+    [8, 8, 1],
+    [8, 8, 8],
+    [8, 8, 8],
+    [2, 1, 1],
+    [8, 2, 1],
+    [16, 1, 1],
+    [8, 16, 8],
+    [8, 8, 1],
+    [8, 8, 2],
+    [8, 2, 16],
+    [8, 8, 1],
+];
+
+const SANDBOX: u8 = 11;
+
+#[test]
+fn instructions_outside_the_table_are_6_and_others_accepted() {
+    for (code, limits) in (0u8..).zip(OPERAND_LIMITS) {
+        for (operand, byte) in (0..3).flat_map(|operand| (0..=255u8).map(move |byte| (operand, byte))) {
+            let mut instruction = [code, 0, 0, u8::from(code == SANDBOX)];
+            instruction[1 + operand] = byte;
+            let no_size = code == SANDBOX && instruction[3] == 0;
+            let number = if u16::from(byte) < limits[operand] && !no_size { 0 } else { 6 };
+            let bytes = image_fields(&[END, instruction], &[]).bytes();
+            assert_eq!(rewrite(&bytes, &mut [0; ROOM]).number, number, "{instruction:?}");
+        }
+    }
+}
+
+#[test]
+fn codes_behind_the_table_are_6() {
+    for code in 13..=255 {
+        assert_refused(&image_fields(&[END, [code, 0, 0, 0]], &[]).bytes(), 6);
+    }
+}
+
+#[test]
+fn turn_slots_above_15_are_7() {
+    for turn_slot in [16, 255] {
+        assert_refused(&ImageFields { turn_slot, ..b() }.bytes(), 7);
+    }
+}
+
+#[test]
+fn record_lengths_outside_the_rule_are_8() {
+    for length in [1u16, 6, 36, 38, 42, 44, 420, 422, 427, 65535] {
+        let mut bytes = image_fields(&[END], &[]).head();
+        bytes.extend(length.to_be_bytes());
+        assert_refused(&bytes, 8);
+    }
+}
+
+#[test]
+fn task_fields_out_of_range_are_9() {
+    let changes: [fn(&mut TaskFields); 6] = [
+        |task| task.kind = 0,
+        |task| task.kind = 6,
+        |task| task.label = 16,
+        |task| task.place = 5,
+        |task| task.place = 256,
+        |task| task.spare = 11,
+    ];
+    for change in changes {
+        assert_refused(&b_with(change), 9);
+    }
+    assert_refused(&b_with(|task| task.spare = 255), 9);
+}
+
+#[test]
+fn mail_out_of_range_is_10() {
+    let changes: [fn(&mut TaskFields); 3] = [
+        |task| task.mail = vec![(16, 0, 0)],
+        |task| task.mail = vec![(0, 16, 0)],
+        |task| task.mail = vec![(1, 0, 0), (1, 0, 0), (2, 0, 0), (1, 0, 0), (1, 0, 0), (1, 0, 0)],
+    ];
+    for change in changes {
+        assert_refused(&b_with(change), 10);
+    }
+}
+
+#[test]
+fn bytes_behind_slot_15_are_11() {
+    assert_refused(&[b().bytes(), vec![0]].concat(), 11);
+}
+
+#[test]
+fn a_used_slot_in_the_spare_of_a_stopped_task_is_12() {
+    for kind in 1..=5 {
+        let mut image = image_fields(&[END], &[live(3), live(5)]);
+        (image.task(3).kind, image.task(3).spare) = (kind, 2);
+        assert_refused(&image.bytes(), 12);
+    }
+}
+
+#[test]
+fn an_output_shorter_than_the_answer_is_13() {
+    let bytes = b().bytes();
+    let (after, _) = b().after(1);
+    assert!(after.len() > bytes.len());
+    let mut out = vec![UNTOUCHED; after.len() - 1];
+    let expected = refused(13);
+    assert_eq!(turns(&bytes, 1, &mut out), expected);
+    assert_eq!(rewrite(&bytes, &mut out[..bytes.len() - 1]), expected);
+    assert_eq!(view(&bytes, 0, &mut out[..bytes.len() - 1]), expected);
+    assert_eq!(sheet(&bytes, 0, &mut out[..53]), expected);
+    assert!(out.iter().all(|&byte| byte == UNTOUCHED));
+    assert_eq!(rewrite(&bytes, &mut out[..bytes.len()]).number, 0);
+    assert_eq!(sheet(&bytes, 0, &mut out[..54]).number, 0);
+}
+
+#[test]
+fn arguments_come_ahead_of_the_image() {
+    assert_eq!(view(&[], 16, &mut []).number, 1);
+    assert_eq!(sheet(&[], u32::MAX, &mut []).number, 1);
+    assert_eq!(turns(&[], 1_000_001, &mut []).number, 2);
+    assert_eq!(turns(&[], u64::MAX, &mut []).number, 2);
+}
+
+/// Each image has two or more faults; the first in document 01's order is given.
+#[test]
+fn the_first_fault_is_given() {
+    let end = image_fields(&[END], &[]);
+    let wrong_code = image_fields(&[[13, 0, 0, 0], END], &[]).bytes();
+    let faulty_task = |change: fn(&mut TaskFields)| {
+        let mut image = image_fields(&[END], &[live(14), live(15)]);
+        image.task(15).label = 16;
+        change(image.task(14));
+        image.bytes()
+    };
+    let cut_record = |change: fn(&mut TaskFields)| {
+        let bytes = faulty_task(change);
+        bytes[..bytes.len() - 40].to_vec()
+    };
+    let ordered = [
+        (vec![2], 4),
+        (vec![1, 0], 3),
+        (vec![1, 0, 5], 5),
+        (wrong_code[..10].to_vec(), 3),
+        (wrong_code[..11].to_vec(), 6),
+        (end.head()[..7].to_vec(), 3),
+        ([&end.head()[..7], &[16]].concat(), 7),
+        ([end.head(), vec![0]].concat(), 3),
+        ([end.head(), vec![0, 36]].concat(), 8),
+        ([end.head(), vec![0, 37, 0]].concat(), 3),
+        (cut_record(|task| task.kind = 0), 3),
+        (faulty_task(|task| task.mail = vec![(16, 0, 0)]), 10),
+        (faulty_task(|task| (task.kind, task.mail) = (0, vec![(16, 0, 0)])), 9),
+        ([faulty_task(|task| task.spare = 1), vec![0]].concat(), 9),
+    ];
+    for (bytes, number) in ordered {
+        assert_refused(&bytes, number);
+    }
+}
+
+#[test]
+fn tail_comes_ahead_of_estate_and_estate_ahead_of_output() {
+    let mut image = image_fields(&[END], &[live(3), live(5)]);
+    image.task(3).spare = 2;
+    assert_refused(&[image.bytes(), vec![0]].concat(), 11);
+    assert_eq!(rewrite(&image.bytes(), &mut []).number, 12);
+    assert_eq!(rewrite(&b().bytes(), &mut []).number, 13);
+}

@@ -1,0 +1,193 @@
+//! The step rules, instruction by instruction.
+
+use super::{image_fields, live, Code, ImageFields, TaskFields, END};
+
+/// A live task in slot 2 of label 5, at place 1 of a program of three instructions, about to carry
+/// out this one; the registers hold 100 to 107.
+fn about_to(instruction: Code) -> ImageFields {
+    let mut image = image_fields(&[END, instruction, END], &[live(2)]);
+    image.turn_slot = 2;
+    let task = image.task(2);
+    (task.label, task.place) = (5, 1);
+    task.registers = [100, 101, 102, 103, 104, 105, 106, 107];
+    image
+}
+
+/// One turn makes this change to the task in slot 2 and no other.
+fn assert_step(image: &ImageFields, change: impl FnOnce(&mut TaskFields)) {
+    let mut expected = image.clone();
+    expected.turn_slot = 3;
+    change(expected.task(2));
+    assert_eq!(image.after(1), (expected.bytes(), 1));
+}
+
+/// One turn goes on to place 2 and puts these figures into registers.
+fn assert_registers(instruction: Code, figures: &[(usize, u32)]) {
+    assert_step(&about_to(instruction), |task| {
+        task.place = 2;
+        for &(register, figure) in figures {
+            task.registers[register] = figure;
+        }
+    });
+}
+
+#[test]
+fn end_keeps_its_place() {
+    assert_step(&about_to(END), |task| task.kind = 2);
+}
+
+#[test]
+fn figures() {
+    assert_registers([1, 4, 0xAB, 0xCD], &[(4, 0xABCD)]);
+    assert_registers([2, 4, 6, 0], &[(4, 106)]);
+    assert_registers([3, 4, 6, 7], &[(4, 213)]);
+    assert_registers([4, 4, 7, 6], &[(4, 1)]);
+    assert_registers([4, 4, 6, 7], &[(4, u32::MAX)]);
+    assert_registers([0xC, 4, 6, 0], &[(4, 5), (6, 2)]);
+    assert_registers([0xC, 4, 4, 0], &[(4, 2)]);
+}
+
+#[test]
+fn adding_wraps() {
+    let mut image = about_to([3, 0, 1, 2]);
+    (image.task(2).registers[1], image.task(2).registers[2]) = (u32::MAX, 3);
+    assert_step(&image, |task| (task.place, task.registers[0]) = (2, 2));
+}
+
+#[test]
+fn go_and_zero() {
+    assert_step(&about_to([5, 0, 0, 0]), |task| task.place = 0);
+    assert_step(&about_to([6, 3, 0, 0]), |task| task.place = 2);
+    let mut image = about_to([6, 3, 0, 0]);
+    image.task(2).registers[3] = 0;
+    assert_step(&image, |task| task.place = 0);
+}
+
+#[test]
+fn raise_joins() {
+    assert_step(&about_to([7, 6, 0, 0]), |task| (task.place, task.label) = (2, 7));
+}
+
+#[test]
+fn a_live_task_behind_the_program_runs_off() {
+    let mut image = about_to(END);
+    image.task(2).place = 3;
+    assert_step(&image, |task| task.kind = 3);
+}
+
+#[test]
+fn stopped_tasks_and_unused_slots_are_not_busy() {
+    for kind in 2..=5 {
+        let mut image = about_to(END);
+        image.task(2).kind = kind;
+        let mut expected = image.clone();
+        expected.turn_slot = 4;
+        assert_eq!(image.after(2), (expected.bytes(), 0));
+    }
+}
+
+#[test]
+fn slot_15_is_followed_by_slot_0() {
+    let mut image = image_fields(&[END], &[live(0)]);
+    image.turn_slot = 15;
+    let mut expected = image.clone();
+    (expected.turn_slot, expected.task(0).kind) = (1, 2);
+    assert_eq!(image.after(2), (expected.bytes(), 1));
+}
+
+/// Mail of which only the third and the fourth message are receivable with label 5.
+fn mixed_mail() -> Vec<super::Mail> {
+    vec![(2, 9, 70), (15, 8, 71), (4, 7, 72), (0, 6, 73)]
+}
+
+#[test]
+fn take_and_poll_take_the_oldest_receivable_message() {
+    for instruction in [[9, 3, 4, 0], [10, 3, 4, 0]] {
+        let mut image = about_to(instruction);
+        image.task(2).mail = mixed_mail();
+        assert_step(&image, |task| {
+            (task.place, task.registers[3], task.registers[4]) = (2, 72, 7);
+            task.mail.remove(2);
+        });
+    }
+}
+
+#[test]
+fn the_sender_stays_where_both_registers_are_the_same() {
+    for instruction in [[9, 3, 3, 0], [10, 3, 3, 0]] {
+        let mut image = about_to(instruction);
+        image.task(2).mail = mixed_mail();
+        assert_step(&image, |task| {
+            (task.place, task.registers[3]) = (2, 7);
+            task.mail.remove(2);
+        });
+    }
+}
+
+#[test]
+fn with_nothing_receivable_take_waits_and_poll_jumps() {
+    for (instruction, place) in [([9, 3, 4, 0], 1), ([10, 3, 4, 0], 0)] {
+        let mut image = about_to(instruction);
+        image.task(2).mail = vec![(2, 9, 70), (15, 8, 71)];
+        assert_step(&image, |task| task.place = place);
+    }
+}
+
+/// A task in slot 2 of label 5 about to send label 7 and the figure 102 to the slot in register 1.
+fn about_to_send(to: u32) -> ImageFields {
+    let mut image = about_to([8, 1, 7, 2]);
+    image.task(2).registers[1] = to;
+    image
+}
+
+#[test]
+fn a_task_may_send_to_itself() {
+    assert_step(&about_to_send(2), |task| (task.place, task.mail) = (2, vec![(7, 2, 102)]));
+}
+
+#[test]
+fn sends_to_no_live_task_are_dropped() {
+    for to in [3, 15, 16, 18, 256 + 2, 65536 + 2, u32::MAX] {
+        assert_step(&about_to_send(to), |task| task.place = 2);
+    }
+    for kind in 2..=5 {
+        let mut image = about_to_send(3);
+        image.tasks.push(TaskFields { kind, ..live(3) });
+        assert_step(&image, |task| task.place = 2);
+    }
+}
+
+#[test]
+fn a_full_label_drops_and_others_are_kept() {
+    let mut image = about_to_send(2);
+    image.task(2).mail = vec![(7, 1, 0), (7, 1, 1), (6, 1, 2), (7, 1, 3), (7, 1, 4)];
+    assert_step(&image, |task| task.place = 2);
+    image.task(2).mail.pop();
+    assert_step(&image, |task| {
+        task.place = 2;
+        task.mail.push((7, 2, 102));
+    });
+}
+
+#[test]
+fn the_senders_label_is_checked_ahead_of_the_target() {
+    for to in [2, 3, 16] {
+        let mut image = about_to_send(to);
+        image.task(2).label = 8;
+        assert_step(&image, |task| task.kind = 4);
+    }
+}
+
+#[test]
+fn a_child_runs_in_the_same_round() {
+    let mut image = about_to([0xB, 1, 2, 1]);
+    image.task(2).spare = 1;
+    let mut expected = image.clone();
+    expected.turn_slot = 4;
+    let parent = expected.task(2);
+    (parent.spare, parent.place, parent.registers[1]) = (0, 2, 3);
+    let mut child = TaskFields { kind: 2, label: 5, place: 2, ..live(3) };
+    child.registers[0] = 2;
+    expected.tasks.push(child);
+    assert_eq!(image.after(2), (expected.bytes(), 2));
+}
