@@ -1,43 +1,88 @@
 # Rithennaw: `make help` lists the targets.
 RT ?= rt
+CARGO ?= cargo
+PREFIX ?= /usr/local
+DESTDIR ?=
+VERSION := $(shell cat VERSION)
 
-.PHONY: check test lib link-test bench fmt clean help
+export RT CARGO
+# cargo and rustc are often there for one user only, in a folder that not every shell looks into.
+export PATH := $(PATH):$(or $(CARGO_HOME),$(HOME)/.cargo)/bin
+MAKEFLAGS += --no-print-directory
 
-# Prove what has changed since the last check.
-check:
-	@$(RT) check
+archive := target/staticlib/librithennaw.a
+slotsheet := target/bin/slotsheet
+# What the two are proved from. The folders are in it so that a file that was removed is noticed.
+sources := crates.txt $(shell find crates -name must-fail -prune -o -print)
+# rt, with a line for each crate and edit as it is done.
+prove := tools/progress $(RT)
+cargo := cd rust && $(CARGO)
+installed := include/rithennaw.h lib/librithennaw.a lib/pkgconfig/rithennaw.pc bin/slotsheet
+below := $(DESTDIR)$(abspath $(PREFIX))
 
-# The gate: the layout, the names that docs/CLAIMS.md cites, the archive linked into C and Rust programs, then every proof
-# from nothing and every must-fail edit. Its last line is rt's own count.
-test:
+# One rt at a time: it keeps its files in target/, and uses all processors itself.
+.NOTPARALLEL:
+.PHONY: all lib check test link-test examples rust-test demo bench differential install uninstall fmt clean help
+
+all: $(archive) $(slotsheet) ## prove and build the archive and the program slotsheet
+
+lib: $(archive) ## prove and build the archive for C and Rust, target/staticlib/librithennaw.a
+
+$(archive): $(sources)
+	@$(prove) staticlib rithennaw
+
+# rt leaves a program alone that has not changed, so its time is set here.
+$(slotsheet): $(sources)
+	@$(prove) check slotsheet
+	@touch $@
+
+check: ## prove what has changed since the last check
+	@$(prove) check
+
+# The quick checks come first. The archive and slotsheet are built once, and by what rt says has changed, not by file
+# times (-B). rt ci comes last: it removes target/ and proves all from nothing, and its count is the last line.
+test: ## the whole gate: every test, then every proof from nothing and every must-fail edit
 	@$(RT) fmt --check
 	@tools/check-claims
-	@RT='$(RT)' tests/link/run
-	@$(RT) ci
+	@tests/progress/run
+	@$(MAKE) -B all
+	@$(MAKE) link-test examples rust-test demo
+	@$(prove) ci
 
-# The archive that include/rithennaw.h declares: target/staticlib/librithennaw.a.
-lib:
-	@$(RT) staticlib rithennaw
+link-test: $(archive) ## link the archive into C and Rust programs, run them, and measure the stack of a call
+	@tests/link/run $(archive)
 
-# The archive linked into C and Rust programs, which are run, and the stack of each call.
-link-test:
-	@RT='$(RT)' tests/link/run
+examples: all ## install below a temporary prefix, build examples/c/host.c by what is installed, and test it
+	@tests/host/run
 
-# The time of a turn beside a plain interpreter.
-bench:
-	@RT='$(RT)' bench/run
+rust-test: $(archive) ## test the Rust package, and hold the monitor to the reference interpreter
+	@$(cargo) test --release
 
-fmt:
+demo: $(archive) ## run the example day
+	@examples/day/run
+
+bench: $(archive) ## measure the time of a turn
+	@$(cargo) run --release --package bench
+
+differential: $(archive) ## hold the monitor to the reference interpreter on many made-up images
+	@$(cargo) run --release --package differential
+
+install: all ## install header, archive, pkg-config file and slotsheet below PREFIX (/usr/local), staged below DESTDIR
+	install -d $(addprefix $(below)/,$(sort $(dir $(installed))))
+	install -m 644 include/rithennaw.h $(below)/include/rithennaw.h
+	install -m 644 $(archive) $(below)/lib/librithennaw.a
+	sed -e 's|@PREFIX@|$(abspath $(PREFIX))|' -e 's|@VERSION@|$(VERSION)|' rithennaw.pc.in >$(below)/lib/pkgconfig/rithennaw.pc
+	chmod 644 $(below)/lib/pkgconfig/rithennaw.pc
+	install -m 755 $(slotsheet) $(below)/bin/slotsheet
+
+uninstall: ## remove what install put there
+	rm -f $(addprefix $(below)/,$(installed))
+
+fmt: ## lay every source out
 	@$(RT) fmt
 
-clean:
-	@rm -rf target
+clean: ## remove what was built
+	@rm -rf target build rust/target
 
-help:
-	@echo 'make check      prove what has changed since the last check'
-	@echo 'make test       the whole gate, from nothing'
-	@echo 'make lib        the static library for C and Rust, target/staticlib/librithennaw.a'
-	@echo 'make link-test  link it into C and Rust programs, run them, and measure the stack of a call'
-	@echo 'make bench      measure the time of a turn'
-	@echo 'make fmt        lay every source out'
-	@echo 'make clean      remove what was built'
+help: ## list the targets
+	@awk -F ':.*## ' '/^[a-z-]+:.*## / { printf "make %-14s%s\n", $$1, $$2 }' Makefile
