@@ -5,24 +5,26 @@ PREFIX ?= /usr/local
 DESTDIR ?=
 VERSION := $(shell cat VERSION)
 
-export RT CARGO
+export RT
 # cargo and rustc are often there for one user only, in a folder that not every shell looks into.
 export PATH := $(PATH):$(or $(CARGO_HOME),$(HOME)/.cargo)/bin
 MAKEFLAGS += --no-print-directory
 
 archive := target/staticlib/librithennaw.a
 slotsheet := target/bin/slotsheet
-# What the two are proved from. The folders are in it so that a file that was removed is noticed.
+# What the two are proved from. The folders are listed too, so that a file that was removed is noticed.
 sources := crates.txt $(shell find crates -name must-fail -prune -o -print)
-# rt, with a line for each crate and edit as it is done.
+# rt, with a line for each crate and each edit that is done.
 prove := tools/progress $(RT)
-cargo := cd rust && $(CARGO)
+# No package of another's is used, so cargo needs no network.
+cargo := $(CARGO) --offline --locked --quiet
+cargo_words := --release --manifest-path rust/Cargo.toml
+prefix := $(abspath $(PREFIX))
 installed := include/rithennaw.h lib/librithennaw.a lib/pkgconfig/rithennaw.pc bin/slotsheet
-below := $(DESTDIR)$(abspath $(PREFIX))
 
-# One rt at a time: it keeps its files in target/, and uses all processors itself.
+# One rt at a time: it keeps its files in target/, and uses the processors itself.
 .NOTPARALLEL:
-.PHONY: all lib check test link-test examples rust-test demo bench differential install uninstall fmt clean help
+.PHONY: all lib check test link-test rust-test examples demo differential bench install uninstall fmt clean help
 
 all: $(archive) $(slotsheet) ## prove and build the archive and the program slotsheet
 
@@ -39,44 +41,46 @@ $(slotsheet): $(sources)
 check: ## prove what has changed since the last check
 	@$(prove) check
 
-# The quick checks come first. The archive and slotsheet are built once, and by what rt says has changed, not by file
-# times (-B). rt ci comes last: it removes target/ and proves all from nothing, and its count is the last line.
+# Quick checks first. Then archive and slotsheet are built once, where rt decides what has changed and not file times
+# (-B), and tested. rt ci is last: it removes target/, proves all from nothing, and its count has to be the last line.
 test: ## the whole gate: every test, then every proof from nothing and every must-fail edit
 	@$(RT) fmt --check
 	@tools/check-claims
+	@tools/check-version
 	@tests/progress/run
 	@$(MAKE) -B all
-	@$(MAKE) link-test examples rust-test demo
+	@$(MAKE) link-test rust-test examples
 	@$(prove) ci
 
 link-test: $(archive) ## link the archive into C and Rust programs, run them, and measure the stack of a call
 	@tests/link/run $(archive)
 
-examples: all ## install below a temporary prefix, build examples/c/host.c by what is installed, and test it
+rust-test: all ## test the Rust packages, and compare the monitor with the reference interpreter
+	@$(cargo) test $(cargo_words)
+
+examples: all ## install below a temporary prefix, test the C host by what is installed, and the sample day
 	@tests/host/run
+	@examples/day/run --check
 
-rust-test: $(archive) ## test the Rust package, and hold the monitor to the reference interpreter
-	@$(cargo) test --release
-
-demo: $(archive) ## run the example day
+demo: $(archive) ## show what each observer sees of a sample day
 	@examples/day/run
 
-bench: $(archive) ## measure the time of a turn
-	@$(cargo) run --release --package bench
+differential: all ## compare the monitor with the reference interpreter on many more made-up images
+	@$(cargo) run $(cargo_words) --package differential
 
-differential: $(archive) ## hold the monitor to the reference interpreter on many made-up images
-	@$(cargo) run --release --package differential
+bench: $(archive) ## measure the time of a turn
+	@$(cargo) run $(cargo_words) --package bench
 
 install: all ## install header, archive, pkg-config file and slotsheet below PREFIX (/usr/local), staged below DESTDIR
-	install -d $(addprefix $(below)/,$(sort $(dir $(installed))))
-	install -m 644 include/rithennaw.h $(below)/include/rithennaw.h
-	install -m 644 $(archive) $(below)/lib/librithennaw.a
-	sed -e 's|@PREFIX@|$(abspath $(PREFIX))|' -e 's|@VERSION@|$(VERSION)|' rithennaw.pc.in >$(below)/lib/pkgconfig/rithennaw.pc
-	chmod 644 $(below)/lib/pkgconfig/rithennaw.pc
-	install -m 755 $(slotsheet) $(below)/bin/slotsheet
+	install -d $(addprefix $(DESTDIR)$(prefix)/,$(sort $(dir $(installed))))
+	install -m 644 include/rithennaw.h $(DESTDIR)$(prefix)/include/rithennaw.h
+	install -m 644 $(archive) $(DESTDIR)$(prefix)/lib/librithennaw.a
+	sed -e 's|@PREFIX@|$(prefix)|' -e 's|@VERSION@|$(VERSION)|' rithennaw.pc.in >$(DESTDIR)$(prefix)/lib/pkgconfig/rithennaw.pc
+	chmod 644 $(DESTDIR)$(prefix)/lib/pkgconfig/rithennaw.pc
+	install -m 755 $(slotsheet) $(DESTDIR)$(prefix)/bin/slotsheet
 
 uninstall: ## remove what install put there
-	rm -f $(addprefix $(below)/,$(installed))
+	rm -f $(addprefix $(DESTDIR)$(prefix)/,$(installed))
 
 fmt: ## lay every source out
 	@$(RT) fmt

@@ -27,7 +27,7 @@ pc_field() { # FIELD FILE
 }
 
 prefix=$work/prefix
-package install PREFIX="$prefix"
+package install DESTDIR= PREFIX="$prefix"
 same_text 'the files installed' "$(files "$prefix")" "$package_files"
 same 'the header installed' "$prefix/include/rithennaw.h" "$root/include/rithennaw.h"
 same 'the archive installed' "$prefix/lib/librithennaw.a" "$root/target/staticlib/librithennaw.a"
