@@ -17,7 +17,7 @@ sources := crates.txt $(shell find crates -name must-fail -prune -o -print)
 # rt, with a line for each crate and each edit that is done.
 prove := tools/progress $(RT)
 # No package of another's is used, so cargo needs no network.
-cargo := $(CARGO) --offline --locked --quiet
+cargo := $(CARGO) --offline --locked
 cargo_words := --release --manifest-path rust/Cargo.toml
 prefix := $(abspath $(PREFIX))
 installed := include/rithennaw.h lib/librithennaw.a lib/pkgconfig/rithennaw.pc bin/slotsheet
@@ -56,7 +56,7 @@ link-test: $(archive) ## link the archive into C and Rust programs, run them, an
 	@tests/link/run $(archive)
 
 rust-test: all ## test the Rust packages, and compare the monitor with the reference interpreter
-	@$(cargo) test $(cargo_words)
+	@$(cargo) test $(cargo_words) -- --quiet
 
 examples: all ## install below a temporary prefix, test the C host by what is installed, and the sample day
 	@tests/host/run
