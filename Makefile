@@ -3,6 +3,8 @@ RT ?= rt
 CARGO ?= cargo
 PREFIX ?= /usr/local
 DESTDIR ?=
+# How many seeds `make differential` takes, a seed being a made-up image and calls with it.
+SEEDS ?= 300000
 VERSION := $(shell cat VERSION)
 
 export RT
@@ -19,6 +21,7 @@ prove := tools/progress $(RT)
 # No package of another's is used, so cargo needs no network.
 cargo := $(CARGO) --offline --locked
 cargo_words := --release --manifest-path rust/Cargo.toml
+differential := $(cargo) run $(cargo_words) --package differential -- --slotsheet $(slotsheet)
 prefix := $(abspath $(PREFIX))
 installed := include/rithennaw.h lib/librithennaw.a lib/pkgconfig/rithennaw.pc bin/slotsheet
 
@@ -55,8 +58,13 @@ test: ## the whole gate: every test, then every proof from nothing and every mus
 link-test: $(archive) ## link the archive into C and Rust programs, run them, and measure the stack of a call
 	@tests/link/run $(archive)
 
-rust-test: all ## test the Rust packages, and compare the monitor with the reference interpreter
+rust-test: all ## test the Rust packages, and compare the monitor and slotsheet with the reference interpreter
 	@$(cargo) test $(cargo_words) -- --quiet
+	@$(differential)
+
+# Other seeds than those of rust-test, which are the first 10,000.
+differential: all ## the same comparison for a long run; SEEDS says how many seeds
+	@$(differential) --first 10000 --seeds $(SEEDS)
 
 examples: all ## install below a temporary prefix, test the C host by what is installed, and the sample day
 	@tests/host/run
@@ -64,9 +72,6 @@ examples: all ## install below a temporary prefix, test the C host by what is in
 
 demo: $(archive) ## show what each observer sees of a sample day
 	@examples/day/run
-
-differential: all ## compare the monitor with the reference interpreter on many more made-up images
-	@$(cargo) run $(cargo_words) --package differential
 
 bench: $(archive) ## measure the time of a turn
 	@$(cargo) run $(cargo_words) --package bench
