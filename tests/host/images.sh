@@ -30,6 +30,6 @@ image() ( # [FIELD=DIGITS...]
 longest_image() {
     mail=$(awk 'BEGIN { for (i = 0; i < 64; i++) printf "0%x0000000000", i % 16 }')
     slots=''
-    for slot in 0 1 2 3 4 5 6 7 8 9 10 11 12 13 14 15; do slots="$slots 01a5 01 $(zeros 36) $mail"; done
+    slots=$(awk -v task="01a5 01 $(zeros 36) $mail" 'BEGIN { for (i = 0; i < 16; i++) printf "%s", task }')
     hex "01 0400 $(zeros 1024) 00 $slots"
 }
