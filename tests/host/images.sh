@@ -29,7 +29,6 @@ image() ( # [FIELD=DIGITS...]
 # Writes the longest image: 256 instructions, all end, and sixteen live tasks, each with four messages of each label.
 longest_image() {
     mail=$(awk 'BEGIN { for (i = 0; i < 64; i++) printf "0%x0000000000", i % 16 }')
-    slots=''
     slots=$(awk -v task="01a5 01 $(zeros 36) $mail" 'BEGIN { for (i = 0; i < 16; i++) printf "%s", task }')
     hex "01 0400 $(zeros 1024) 00 $slots"
 }
