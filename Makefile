@@ -1,43 +1,97 @@
 # Rithennaw: `make help` lists the targets.
 RT ?= rt
+CARGO ?= cargo
+PREFIX ?= /usr/local
+DESTDIR ?=
+# How many seeds `make differential` takes, a seed being a made-up image and calls with it.
+SEEDS ?= 300000
+VERSION := $(shell cat VERSION)
 
-.PHONY: check test lib link-test bench fmt clean help
+export RT
+# cargo and rustc are often there for one user only, in a folder that not every shell looks into.
+export PATH := $(PATH):$(or $(CARGO_HOME),$(HOME)/.cargo)/bin
+MAKEFLAGS += --no-print-directory
 
-# Prove what has changed since the last check.
-check:
-	@$(RT) check
+archive := target/staticlib/librithennaw.a
+slotsheet := target/bin/slotsheet
+# What the two are proved from. The folders are listed too, so that a file that was removed is noticed.
+sources := crates.txt $(shell find crates -name must-fail -prune -o -print)
+# rt, with a line for each crate and each edit that is done.
+prove := tools/progress $(RT)
+# No package of another's is used, so cargo needs no network.
+cargo := $(CARGO) --offline --locked
+cargo_words := --release --manifest-path rust/Cargo.toml
+differential := $(cargo) run $(cargo_words) --package differential -- --slotsheet $(slotsheet)
+prefix := $(abspath $(PREFIX))
+installed := include/rithennaw.h lib/librithennaw.a lib/pkgconfig/rithennaw.pc bin/slotsheet
 
-# The gate: the layout, the names that docs/CLAIMS.md cites, the archive linked into C and Rust programs, then every proof
-# from nothing and every must-fail edit. Its last line is rt's own count.
-test:
+# One rt at a time: it keeps its files in target/, and uses the processors itself.
+.NOTPARALLEL:
+.PHONY: all lib check test link-test rust-test examples demo differential bench install uninstall fmt clean help
+
+all: $(archive) $(slotsheet) ## prove and build the archive and the program slotsheet
+
+lib: $(archive) ## prove and build the archive for C and Rust, target/staticlib/librithennaw.a
+
+$(archive): $(sources)
+	@$(prove) staticlib rithennaw
+
+# rt leaves a program alone that has not changed, so its time is set here.
+$(slotsheet): $(sources)
+	@$(prove) check slotsheet
+	@touch $@
+
+check: ## prove what has changed since the last check
+	@$(prove) check
+
+# Quick checks first. Then archive and slotsheet are built once, where rt decides what has changed and not file times
+# (-B), and tested. rt ci is last: it removes target/, proves all from nothing, and its count has to be the last line.
+test: ## the whole gate: every test, then every proof from nothing and every must-fail edit
 	@$(RT) fmt --check
 	@tools/check-claims
-	@RT='$(RT)' tests/link/run
-	@$(RT) ci
+	@tools/check-version
+	@tests/progress/run
+	@$(MAKE) -B all
+	@$(MAKE) link-test rust-test examples
+	@$(prove) ci
 
-# The archive that include/rithennaw.h declares: target/staticlib/librithennaw.a.
-lib:
-	@$(RT) staticlib rithennaw
+link-test: $(archive) ## link the archive into C and Rust programs, run them, and measure the stack of a call
+	@tests/link/run $(archive)
 
-# The archive linked into C and Rust programs, which are run, and the stack of each call.
-link-test:
-	@RT='$(RT)' tests/link/run
+rust-test: all ## test the Rust packages, and compare the monitor and slotsheet with the reference interpreter
+	@$(cargo) test $(cargo_words) -- --quiet
+	@$(differential)
 
-# The time of a turn beside a plain interpreter.
-bench:
-	@RT='$(RT)' bench/run
+# Other seeds than those of rust-test, which are the first 10,000.
+differential: all ## the same comparison for a long run; SEEDS says how many seeds
+	@$(differential) --first 10000 --seeds $(SEEDS)
 
-fmt:
+examples: all ## install below a temporary prefix, test the C host by what is installed, and the sample day
+	@tests/host/run
+	@examples/day/run --check
+
+demo: $(archive) ## show what each observer sees of a sample day
+	@examples/day/run
+
+bench: $(archive) ## measure the time of a turn
+	@$(cargo) run $(cargo_words) --package bench
+
+install: all ## install header, archive, pkg-config file and slotsheet below PREFIX (/usr/local), staged below DESTDIR
+	install -d $(addprefix $(DESTDIR)$(prefix)/,$(sort $(dir $(installed))))
+	install -m 644 include/rithennaw.h $(DESTDIR)$(prefix)/include/rithennaw.h
+	install -m 644 $(archive) $(DESTDIR)$(prefix)/lib/librithennaw.a
+	sed -e 's|@PREFIX@|$(prefix)|' -e 's|@VERSION@|$(VERSION)|' rithennaw.pc.in >$(DESTDIR)$(prefix)/lib/pkgconfig/rithennaw.pc
+	chmod 644 $(DESTDIR)$(prefix)/lib/pkgconfig/rithennaw.pc
+	install -m 755 $(slotsheet) $(DESTDIR)$(prefix)/bin/slotsheet
+
+uninstall: ## remove what install put there
+	rm -f $(addprefix $(DESTDIR)$(prefix)/,$(installed))
+
+fmt: ## lay every source out
 	@$(RT) fmt
 
-clean:
-	@rm -rf target
+clean: ## remove what was built
+	@rm -rf target build rust/target
 
-help:
-	@echo 'make check      prove what has changed since the last check'
-	@echo 'make test       the whole gate, from nothing'
-	@echo 'make lib        the static library for C and Rust, target/staticlib/librithennaw.a'
-	@echo 'make link-test  link it into C and Rust programs, run them, and measure the stack of a call'
-	@echo 'make bench      measure the time of a turn'
-	@echo 'make fmt        lay every source out'
-	@echo 'make clean      remove what was built'
+help: ## list the targets
+	@awk -F ':.*## ' '/^[a-z-]+:.*## / { printf "make %-14s%s\n", $$1, $$2 }' Makefile
