@@ -41,9 +41,9 @@ impl<'a> Parts<'a> {
                 }
                 self.turn_slot.replace(head.number(slot)?).is_some()
             }
-            ["slot", slot] => {
+            ["slot", slot, ..] => {
                 let slot = head.index("slot", slot, SLOTS)?;
-                let record = record(body, &self.names)?;
+                let record = record(head, body, &self.names)?;
                 self.records[slot].replace(with_length(head, record)?).is_some()
             }
             _ => return Err(head.fault("expected `program`, `turn SLOT` or `slot SLOT`")),

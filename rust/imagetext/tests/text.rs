@@ -77,6 +77,13 @@ fn every_field_has_its_place() {
 }
 
 #[test]
+fn fields_share_lines() {
+    let apart = "slot 4\nlabel 3\nregister 2 9\nmessage 0 1 2\nmessage 0 1 2\n";
+    assert_eq!(image("slot 4 label 3 register 2 9\nmessage 0 1 2 message 0 1 2\n"), image(apart));
+    assert!(image(apart).is_ok());
+}
+
+#[test]
 fn names_are_places() {
     let text = "program\nfirst:\nalso-first:\ngo last_2 0 0\nlast_2:\npoll 1 2 first\nbehind:\nslot 0\nplace behind\n";
     let bytes = image(text).unwrap();
@@ -113,7 +120,7 @@ fn faults_of_sections() {
         ("# none\nend 0 0 0\n", "2: expected `program`, `turn SLOT` or `slot SLOT`"),
         ("program 4\n", "1: expected `program`, `turn SLOT` or `slot SLOT`"),
         ("turn\n", "1: expected `program`, `turn SLOT` or `slot SLOT`"),
-        ("slot 0 0\n", "1: expected `program`, `turn SLOT` or `slot SLOT`"),
+        ("slot\n", "1: expected `program`, `turn SLOT` or `slot SLOT`"),
         ("program\nprogram\n", "2: this part of the image is given twice"),
         ("turn 0\nturn 1\n", "2: this part of the image is given twice"),
         ("slot 4\nslot 5\nslot 4\n", "3: this part of the image is given twice"),
@@ -148,18 +155,20 @@ fn faults_of_programs() {
 
 #[test]
 fn faults_of_tasks() {
-    const FIELD: &str =
-        "2: expected `kind K`, `label L`, `spare S`, `place P`, `register R VALUE` or `message LABEL SENDER VALUE`";
+    let no_field = |at: &str| {
+        format!("{at}: expected `kind K`, `label L`, `spare K`, `place P`, `register R VALUE` or `message LABEL SENDER VALUE`")
+    };
     let full = format!("turn 0\nslot 0\n{}", "message 0 0 0\n".repeat(10_917));
     expect_faults(&[
-        ("slot 0\nkind\n", FIELD),
-        ("slot 0\nmessage 0 0\n", FIELD),
-        ("slot 0\nend 0 0 0\n", FIELD),
+        ("slot 0 0\n", &(no_field("1") + " at `0`")),
+        ("slot 0 label 1 kind\n", &(no_field("1") + " at `kind`")),
+        ("slot 0\nmessage 0 0\n", &(no_field("2") + " at `message 0 0`")),
+        ("slot 0\nend 0 0 0\n", &(no_field("2") + " at `end 0 0 0`")),
         ("slot 0\nplace 65536\n", "2: `65536` is too large for a field of 16 bits"),
         ("slot 0\nplace start\nprogram\nstart:\n", "2: no place has the name `start`"),
         ("slot 0\nregister 8 0\n", "2: there is no register 8: the last is 7"),
         ("slot 0\nregister 1 4294967296\n", "2: `4294967296` is too large for a field of 32 bits"),
-        ("slot 0\nregister 1 1\nregister 1 2\n", "3: `register 1` is given twice"),
+        ("slot 0 register 1 1\nregister 1 2\n", "2: `register 1` is given twice"),
         ("slot 0\nlabel 1\n\nlabel 1\n", "4: `label` is given twice"),
         (&full, "2: 65539 bytes are too many for a 2-byte length"),
     ]);
