@@ -1,0 +1,127 @@
+//! The calls, each in two forms: one that allocates its answer, and one (`_into`) that writes into the caller's buffer.
+
+use crate::ffi::{self, Told};
+use crate::{Observer, Refusal, Slot, IMAGE_MAX, SHEET_MAX};
+use std::ops::Range;
+
+/// What [`turns`] gives. Both are for the host alone: they depend on all tasks, whoever may see them.
+#[derive(Debug, Clone, PartialEq, Eq)]
+pub struct Turned {
+    /// The image after the turns.
+    pub image: Vec<u8>,
+    /// The number of turns that met a live task.
+    pub busy: u64,
+}
+
+/// What [`turns_into`] tells. Both are for the host alone: they depend on all tasks, whoever may see them.
+#[derive(Debug, Clone, Copy, PartialEq, Eq)]
+pub struct TurnedInto {
+    /// The length of the image after the turns, which stands at the front of the buffer.
+    pub length: usize,
+    /// The number of turns that met a live task.
+    pub busy: u64,
+}
+
+/// The record of a slot: the part of the image that holds it. It is empty for an unused slot, a slot above 15 and a refused
+/// image.
+pub fn record(image: &[u8], slot: impl Into<Slot>) -> &[u8] {
+    image.get(record_range(image, slot)).unwrap_or_default()
+}
+
+/// Where [`record`] stands in the image; `0..0` where it is empty.
+pub fn record_range(image: &[u8], slot: impl Into<Slot>) -> Range<usize> {
+    let (start, length) = ffi::record(image, slot.into().number());
+    start..start.saturating_add(length)
+}
+
+/// The image again, as it was read: an accepted image gives its own bytes, so this is also the test of an image.
+///
+/// # Errors
+/// Refusals 3 to 12.
+pub fn rewrite(image: &[u8]) -> Result<Vec<u8>, Refusal> {
+    allocated(IMAGE_MAX, |out| rewrite_into(image, out))
+}
+
+/// [`rewrite`] into a buffer. It tells the number of bytes written; those behind them stay as they were.
+///
+/// # Errors
+/// Refusals 3 to 13; the buffer is as it was.
+pub fn rewrite_into(image: &[u8], out: &mut [u8]) -> Result<usize, Refusal> {
+    outcome(ffi::rewrite(image, out)).map(|told| told.length)
+}
+
+/// Runs `count` turns, at most [`TURNS_MAX`](crate::TURNS_MAX), and gives the image after them.
+///
+/// # Errors
+/// Refusals 2 to 12; no turn was carried out.
+pub fn turns(image: &[u8], count: u64) -> Result<Turned, Refusal> {
+    let mut busy = 0;
+    let image = allocated(IMAGE_MAX, |out| {
+        let told = turns_into(image, count, out)?;
+        busy = told.busy;
+        Ok(told.length)
+    })?;
+    Ok(Turned { image, busy })
+}
+
+/// [`turns`] into a buffer; the bytes behind the image after the turns stay as they were.
+///
+/// # Errors
+/// Refusals 2 to 13; no turn was carried out, and the buffer is as it was.
+pub fn turns_into(image: &[u8], count: u64, out: &mut [u8]) -> Result<TurnedInto, Refusal> {
+    outcome(ffi::turns(image, count, out))
+}
+
+/// What an observer is shown: the image in which a task whose label doesn't flow to the observer's is written as unused, and
+/// messages whose labels don't are left out of the rest. A view is an accepted image itself.
+///
+/// # Errors
+/// Refusals 1 and 3 to 12.
+pub fn view(image: &[u8], observer: impl Into<Observer>) -> Result<Vec<u8>, Refusal> {
+    allocated(IMAGE_MAX, |out| view_into(image, observer, out))
+}
+
+/// [`view`] into a buffer. It tells the number of bytes written; those behind them stay as they were.
+///
+/// # Errors
+/// Refusals 1 and 3 to 13; the buffer is as it was.
+pub fn view_into(image: &[u8], observer: impl Into<Observer>, out: &mut [u8]) -> Result<usize, Refusal> {
+    outcome(ffi::view(image, observer.into().number(), out)).map(|told| told.length)
+}
+
+/// The observer sheet: a heading and a line for each used slot of the observer's view, in ASCII. A line has the slot, the
+/// task's kind, label, spare and place, and the number of messages in the view.
+///
+/// # Errors
+/// Refusals 1 and 3 to 12.
+pub fn sheet(image: &[u8], observer: impl Into<Observer>) -> Result<Vec<u8>, Refusal> {
+    allocated(SHEET_MAX, |out| sheet_into(image, observer, out))
+}
+
+/// [`sheet`] into a buffer. It tells the number of bytes written; those behind them stay as they were.
+///
+/// # Errors
+/// Refusals 1 and 3 to 13; the buffer is as it was.
+pub fn sheet_into(image: &[u8], observer: impl Into<Observer>, out: &mut [u8]) -> Result<usize, Refusal> {
+    outcome(ffi::sheet(image, observer.into().number(), out)).map(|told| told.length)
+}
+
+/// What a call writes into a buffer of `room` bytes, which is enough for every answer of that call.
+fn allocated(room: usize, call: impl FnOnce(&mut [u8]) -> Result<usize, Refusal>) -> Result<Vec<u8>, Refusal> {
+    let mut out = vec![0; room];
+    let length = call(&mut out)?;
+    out.truncate(length);
+    out.shrink_to_fit();
+    Ok(out)
+}
+
+/// What was told, or the refusal that its number names.
+fn outcome(told: Told) -> Result<TurnedInto, Refusal> {
+    match Refusal::try_from(told.number) {
+        Ok(refusal) => Err(refusal),
+        Err(_) if told.number == 0 => Ok(TurnedInto { length: told.length, busy: told.busy }),
+        Err(_) => {
+            unreachable!("librithennaw.a gave the number {}, which the scope document does not have", told.number)
+        }
+    }
+}

@@ -1,0 +1,78 @@
+//! Safe calls to Rithennaw, a monitor that planning software embeds.
+//!
+//! Several owners' tasks run side by side. Each task has a [`Label`], the set of owners whose figures it may have touched.
+//! The monitor takes an image of all tasks as bytes, runs [`turns`], and gives each observer a [`view`] or a [`sheet`]. What
+//! an image means, what a turn does and what a view shows is proved; this crate only hands slices to the archive
+//! `librithennaw.a`, which `make lib` builds.
+//!
+//! Every call takes any bytes and any numbers, so the caller checks nothing beforehand: what cannot be taken is refused with
+//! a [`Refusal`], and a refused call writes nothing. No call panics, whatever it is given. The calls keep nothing between
+//! them, and any number of threads may call at a time. A call takes up to 32,768 bytes of stack.
+//!
+//! # Example
+//!
+//! Two tasks: slot 0 has touched owner 0's figures (label 1) and sends 700 to slot 1, which is public (label 0). Owner 0 is
+//! shown the task and its message. Owner 1 is shown neither.
+//!
+//! ```
+//! use rithennaw::{record, sheet, turns, view, Label, Refusal};
+//!
+//! // A record without mail: kind 1 (live), label, spare 0, place, registers 0 to 7.
+//! fn task(label: u8, place: u8, registers: [u32; 8]) -> Vec<u8> {
+//!     let mut record = vec![0, 37, 1, label, 0, 0, place];
+//!     record.extend(registers.iter().flat_map(|register| register.to_be_bytes()));
+//!     record
+//! }
+//!
+//! // Version 1; 8 bytes of program: send (slot in register 1, label 1, value in register 2), end; turn slot 0.
+//! let mut image = vec![1, 0, 8, 0x08, 1, 1, 2, 0x00, 0, 0, 0, 0];
+//! image.extend(task(1, 0, [0, 1, 700, 0, 0, 0, 0, 0]));
+//! image.extend(task(0, 1, [0; 8]));
+//! image.extend([0, 0].repeat(14)); // slots 2 to 15 are unused
+//!
+//! let after = turns(&image, 1)?;
+//! assert_eq!(after.busy, 1);
+//! assert_eq!(record(&after.image, 1)[37..], [1, 0, 0, 0, 0x02, 0xbc]); // label 1, sender 0, value 700
+//!
+//! let [owner_0, owner_1, ..] = Label::OWNERS;
+//! assert_eq!(view(&after.image, owner_0)?, after.image);
+//! let shown = view(&after.image, owner_1)?;
+//! assert_eq!(record(&shown, 0), []);
+//! assert_eq!(record(&shown, 1), [&[1, 0, 0, 0, 1], &[0; 32][..]].concat());
+//!
+//! assert_eq!(sheet(&after.image, owner_0)?, b"slot kind label spare pc mail\n0 1 1 0 1 0\n1 1 0 0 1 1\n");
+//! assert_eq!(sheet(&after.image, owner_1)?, b"slot kind label spare pc mail\n1 1 0 0 1 0\n");
+//! assert_eq!(sheet(&after.image, 16), Err(Refusal::Observer));
+//! # Ok::<(), Refusal>(())
+//! ```
+
+#![deny(missing_docs, unsafe_code, unsafe_op_in_unsafe_fn)]
+
+mod calls;
+#[allow(unsafe_code)]
+mod ffi;
+mod label;
+mod range;
+mod refusal;
+mod slot;
+
+pub use calls::{
+    record, record_range, rewrite, rewrite_into, sheet, sheet_into, turns, turns_into, view, view_into, Turned,
+    TurnedInto,
+};
+pub use label::{Label, Observer};
+pub use range::OutOfRange;
+pub use refusal::Refusal;
+pub use slot::Slot;
+
+/// The length of the shortest image.
+pub const IMAGE_MIN: usize = 40;
+
+/// The length of the longest image. A buffer of this length is long enough for every call.
+pub const IMAGE_MAX: usize = 7796;
+
+/// A buffer of this length is long enough for every sheet.
+pub const SHEET_MAX: usize = 318;
+
+/// The most turns in one call.
+pub const TURNS_MAX: u64 = 1_000_000;

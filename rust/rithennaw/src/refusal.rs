@@ -1,0 +1,71 @@
+//! The thirteen refusals, with the scope document's words and numbers.
+
+use crate::OutOfRange;
+use std::{error, fmt};
+
+/// Makes `Refusal` of the scope document's table: number, word and condition of each.
+macro_rules! refusals {
+    ($($name:ident = $number:literal, $word:literal, $condition:literal;)*) => {
+        /// Why a call was refused: the first rule that is broken. The words and the numbers are the scope document's.
+        #[derive(Debug, Clone, Copy, PartialEq, Eq, Hash)]
+        #[repr(u8)]
+        pub enum Refusal {
+            $(#[doc = concat!("Number ", $number, ": ", $condition, ".")] $name = $number,)*
+        }
+
+        impl Refusal {
+            /// Every refusal, in the order of the numbers 1 to 13.
+            pub const ALL: [Refusal; 13] = [$(Refusal::$name),*];
+
+            /// The scope document's word for it, such as `record length`.
+            pub const fn word(self) -> &'static str {
+                match self { $(Refusal::$name => $word,)* }
+            }
+
+            /// The condition in plain words, such as `bytes after slot 15`.
+            pub const fn condition(self) -> &'static str {
+                match self { $(Refusal::$name => $condition,)* }
+            }
+        }
+    };
+}
+
+refusals! {
+    Observer = 1, "observer", "the label asked for is above 15";
+    TurnLimit = 2, "turn limit", "more than 1,000,000 turns";
+    Short = 3, "short", "the image ends before the last byte of the field or part being read";
+    Version = 4, "version", "the first byte isn't 1";
+    ProgramLength = 5, "program length", "the program's length is no multiple of 4 from 4 to 1,024";
+    Instruction = 6, "instruction", "an instruction isn't in the table, or has an operand outside it";
+    TurnSlot = 7, "turn slot", "the turn slot is above 15";
+    RecordLength = 8, "record length", "a record's length is neither 0 nor 37 + 6 × k, k at most 64";
+    TaskField = 9, "task field", "a task's kind, label or place is out of range, or its slot + spare is above 15";
+    Mail = 10, "mail", "a message's label or sender is above 15, or a mailbox has five or more of one label";
+    Tail = 11, "tail", "bytes after slot 15";
+    Estate = 12, "estate", "a used slot lies in another task's spare";
+    Output = 13, "output", "the output is shorter than the answer";
+}
+
+impl Refusal {
+    /// The scope document's number, 1 to 13.
+    pub const fn number(self) -> u8 {
+        self as u8
+    }
+}
+
+impl TryFrom<u8> for Refusal {
+    type Error = OutOfRange;
+
+    fn try_from(number: u8) -> Result<Refusal, OutOfRange> {
+        let refusal = Refusal::ALL.into_iter().find(|refusal| refusal.number() == number);
+        refusal.ok_or(OutOfRange { number, first: 1, last: 13 })
+    }
+}
+
+impl fmt::Display for Refusal {
+    fn fmt(&self, f: &mut fmt::Formatter<'_>) -> fmt::Result {
+        write!(f, "refused {} ({}): {}", self.number(), self.word(), self.condition())
+    }
+}
+
+impl error::Error for Refusal {}

@@ -1,0 +1,151 @@
+//! Every call in both forms: they agree, refuse what the scope document refuses, and take empty slices and extreme numbers.
+
+use rithennaw::{
+    record, record_range, rewrite, rewrite_into, sheet, sheet_into, turns, turns_into, view, view_into, Label, Refusal,
+    Turned, TurnedInto, IMAGE_MAX, IMAGE_MIN, TURNS_MAX,
+};
+
+/// The bytes of a task without mail: kind 1, label, spare 0, place, registers.
+fn task(label: u8, place: u8, registers: [u32; 8]) -> Vec<u8> {
+    let mut record = vec![1, label, 0, 0, place];
+    record.extend(registers.iter().flat_map(|register| register.to_be_bytes()));
+    record
+}
+
+/// An image with those records in its first slots.
+fn image(program: &[[u8; 4]], records: &[Vec<u8>]) -> Vec<u8> {
+    let mut image = vec![1];
+    image.extend((4 * program.len() as u16).to_be_bytes());
+    image.extend(program.concat());
+    image.push(0);
+    for slot in 0..16 {
+        let record = records.get(slot).map_or(&[][..], Vec::as_slice);
+        image.extend((record.len() as u16).to_be_bytes());
+        image.extend(record);
+    }
+    image
+}
+
+/// Slot 0, label 1, sends 700 to slot 1 with label 1; both then end.
+fn sender_and_receiver() -> Vec<u8> {
+    let program = [[0x08, 1, 1, 2], [0x00, 0, 0, 0]];
+    image(&program, &[task(1, 0, [0, 1, 700, 0, 0, 0, 0, 0]), task(0, 1, [0; 8])])
+}
+
+/// What a call that writes into a buffer gave: the bytes at its front, those behind them being as they were.
+fn front<T>(
+    length: usize, call: impl Fn(&mut [u8]) -> Result<T, Refusal>, told: impl Fn(T) -> usize,
+) -> Option<Vec<u8>> {
+    let mut out = vec![0xa5; IMAGE_MAX];
+    let (room, behind) = out.split_at_mut(length);
+    let told = call(room).ok().map(told);
+    let written = told.unwrap_or(0);
+    assert!(room[written..].iter().chain(behind.iter()).all(|&byte| byte == 0xa5), "a byte behind the answer changed");
+    told.map(|length| room[..length].to_vec())
+}
+
+/// A call in both forms: into a long buffer, one that is just enough and one that is a byte too short.
+fn agree<T>(allocated: &[u8], call: impl Fn(&mut [u8]) -> Result<T, Refusal>, told: impl Fn(T) -> usize) {
+    let length = allocated.len();
+    assert_eq!(front(IMAGE_MAX, &call, &told).as_deref(), Some(allocated));
+    assert_eq!(front(length, &call, &told).as_deref(), Some(allocated));
+    assert_eq!(front(length - 1, &call, &told), None);
+    assert_eq!(call(&mut vec![0; length - 1]).err(), Some(Refusal::Output));
+    assert_eq!(call(&mut []).err(), Some(Refusal::Output));
+}
+
+#[test]
+fn both_forms_agree_on_an_accepted_image() {
+    let image = sender_and_receiver();
+    let sent = turns(&image, 1).unwrap();
+    assert_eq!((sent.image.len(), sent.busy), (image.len() + 6, 1));
+    agree(&rewrite(&image).unwrap(), |out| rewrite_into(&image, out), |length| length);
+    agree(&sent.image, |out| turns_into(&image, 1, out), |told: TurnedInto| told.length);
+    assert_eq!(turns_into(&image, 1, &mut [0; IMAGE_MAX]).map(|told| told.busy), Ok(1));
+    for observer in Label::all() {
+        agree(&view(&sent.image, observer).unwrap(), |out| view_into(&sent.image, observer, out), |length| length);
+        agree(&sheet(&sent.image, observer).unwrap(), |out| sheet_into(&sent.image, observer, out), |length| length);
+    }
+}
+
+#[test]
+fn a_record_is_a_part_of_the_image() {
+    let image = sender_and_receiver();
+    assert_eq!(record_range(&image, 0), 14..51);
+    assert_eq!(record_range(&image, 1), 53..90);
+    assert_eq!(record(&image, 1), &image[53..90]);
+    assert!(std::ptr::eq(record(&image, 1), &image[53..90]));
+    for slot in [2, 15, 16, 255, u32::MAX] {
+        assert_eq!((record(&image, slot), record_range(&image, slot)), (&[][..], 0..0), "slot {slot}");
+    }
+    let cut = &image[..image.len() - 1];
+    assert_eq!((record(cut, 1), record_range(cut, 1)), (&[][..], 0..0));
+}
+
+#[test]
+fn the_shortest_image_is_taken_by_every_call() {
+    let image = image(&[[0; 4]], &[]);
+    assert_eq!(image.len(), IMAGE_MIN);
+    assert_eq!(rewrite(&image).as_ref(), Ok(&image));
+    assert_eq!(turns(&image, 0), Ok(Turned { image: image.clone(), busy: 0 }));
+    assert_eq!(view(&image, 0).as_ref(), Ok(&image));
+    assert_eq!(sheet(&image, 0).as_deref(), Ok(&b"slot kind label spare pc mail\n"[..]));
+}
+
+/// What every call refuses an image with, in both forms, whatever the buffer's length.
+fn refused(image: &[u8], refusal: Refusal) {
+    for length in [0, 1, IMAGE_MAX] {
+        let mut out = vec![0xa5; length];
+        assert_eq!(rewrite_into(image, &mut out), Err(refusal));
+        assert_eq!(turns_into(image, 1, &mut out), Err(refusal));
+        assert_eq!(view_into(image, 0, &mut out), Err(refusal));
+        assert_eq!(sheet_into(image, 0, &mut out), Err(refusal));
+        assert!(out.iter().all(|&byte| byte == 0xa5), "a refused call wrote");
+    }
+    assert_eq!(rewrite(image), Err(refusal));
+    assert_eq!(turns(image, TURNS_MAX), Err(refusal));
+    assert_eq!(view(image, Label::TOP), Err(refusal));
+    assert_eq!(sheet(image, Label::TOP), Err(refusal));
+    assert_eq!((record(image, 0), record_range(image, 0)), (&[][..], 0..0));
+}
+
+#[test]
+fn an_image_that_breaks_a_rule_is_refused_by_every_call() {
+    let image = sender_and_receiver();
+    let changed = |at: usize, byte: u8| {
+        let mut image = image.clone();
+        image[at] = byte;
+        image
+    };
+    refused(&[], Refusal::Short);
+    refused(&image[..image.len() - 1], Refusal::Short);
+    refused(&changed(0, 2), Refusal::Version);
+    refused(&changed(2, 9), Refusal::ProgramLength);
+    refused(&changed(3, 13), Refusal::Instruction);
+    refused(&changed(11, 16), Refusal::TurnSlot);
+    refused(&changed(13, 36), Refusal::RecordLength);
+    refused(&changed(14, 6), Refusal::TaskField);
+    refused(&[&image[..], &[0]].concat(), Refusal::Tail);
+    refused(&changed(16, 1), Refusal::Estate);
+    let sent = turns(&image, 1).unwrap().image;
+    let sender_at = record_range(&sent, 1).end - 5;
+    refused(&[&sent[..sender_at], &[16], &sent[sender_at + 1..]].concat(), Refusal::Mail);
+}
+
+#[test]
+fn extreme_numbers_are_refused_ahead_of_the_image() {
+    let accepted = sender_and_receiver();
+    for image in [&accepted[..], &[]] {
+        for observer in [16, 255, 256, u32::MAX] {
+            assert_eq!(view(image, observer), Err(Refusal::Observer));
+            assert_eq!(view_into(image, observer, &mut []), Err(Refusal::Observer));
+            assert_eq!(sheet(image, observer), Err(Refusal::Observer));
+            assert_eq!(sheet_into(image, observer, &mut []), Err(Refusal::Observer));
+        }
+        for count in [TURNS_MAX + 1, u64::from(u32::MAX) + 1, u64::MAX] {
+            assert_eq!(turns(image, count), Err(Refusal::TurnLimit));
+            assert_eq!(turns_into(image, count, &mut []), Err(Refusal::TurnLimit));
+        }
+    }
+    assert_eq!(turns(&accepted, TURNS_MAX).map(|turned| turned.busy), Ok(3));
+}
