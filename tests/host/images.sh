@@ -1,0 +1,35 @@
+# Images for tests/host/run, which sources this file: the scope document's B with any field changed, and the longest image.
+
+# Writes the bytes that hexadecimal digits name.
+hex() { # DIGITS...
+    octal=$(awk -v digits="$*" '
+        function value(i) { return index("0123456789abcdef", substr(digits, i, 1)) - 1 }
+        BEGIN {
+            gsub(/ /, "", digits)
+            for (i = 1; i < length(digits); i += 2) printf "\\%03o", 16 * value(i) + value(i + 1)
+        }')
+    # shellcheck disable=SC2059
+    printf "$octal"
+}
+
+# The digits of so many bytes 0.
+zeros() { printf "%0$((2 * $1))d" 0; }
+
+# Writes B, with these fields in the place of its own. Fields are in hexadecimal.
+image() ( # [FIELD=DIGITS...]
+    version=01 program_length=0010 program='08010002 00000000 09030400 00000000' turn_slot=00
+    length_0=0025 kind_0=01 label_0=00 spare_0=00 place_0=0000
+    length_5=0025 mail_5='' unused_6_to_15=$(zeros 20) tail=''
+    for field; do eval "${field%%=*}=\${field#*=}"; done
+    hex "$version $program_length $program $turn_slot" \
+        "$length_0 $kind_0 $label_0 $spare_0 $place_0 00000000 00000005 000002bc $(zeros 20)" \
+        "$(zeros 8) $length_5 01 00 00 0002 $(zeros 32) $mail_5 $unused_6_to_15 $tail"
+)
+
+# Writes the longest image: 256 instructions, all end, and sixteen live tasks, each with four messages of each label.
+longest_image() {
+    mail=$(awk 'BEGIN { for (i = 0; i < 64; i++) printf "0%x0000000000", i % 16 }')
+    slots=''
+    for slot in 0 1 2 3 4 5 6 7 8 9 10 11 12 13 14 15; do slots="$slots 01a5 01 $(zeros 36) $mail"; done
+    hex "01 0400 $(zeros 1024) 00 $slots"
+}
