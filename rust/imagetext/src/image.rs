@@ -17,7 +17,7 @@ struct Parts<'a> {
     records: [Option<Vec<u8>>; SLOTS],
 }
 
-/// The image that a text describes, or the first fault in the text's form.
+/// The image that a text describes, or a fault in the text's form.
 pub fn image(text: &str) -> Result<Vec<u8>, Fault> {
     let mut parts = Parts::default();
     for section in sections(text)? {

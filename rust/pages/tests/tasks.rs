@@ -11,5 +11,4 @@ fn the_page_says_what_the_monitor_gives() {
         images >= 5 && page.contains(&found),
         "docs/TASKS.md says another number of examples than was found: {found}"
     );
-    println!("docs/TASKS.md: compared {found}");
 }
