@@ -1,0 +1,14 @@
+//! Turns a text that describes tasks into the bytes of an image. docs/TASKS.md says how the text is written.
+//!
+//! Only the form of the text is checked. Whether the monitor accepts the image is the monitor's answer.
+
+#![forbid(unsafe_code)]
+
+mod image;
+mod line;
+mod program;
+mod section;
+mod task;
+
+pub use image::image;
+pub use line::Fault;

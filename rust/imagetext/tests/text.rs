@@ -1,0 +1,211 @@
+//! Texts and the bytes that they give; faults in a text's form and the lines where they are met; the program.
+
+use std::process::{Command, Output};
+
+use imagetext::image;
+
+/// 01's image B.
+const B: &str = "
+    program             # a task that sends, and one that takes
+        send 1 0 2
+        end 0 0 0
+    receiver:
+        take 3 4 0
+        end 0 0 0
+
+    turn 0
+
+    slot 0
+        register 1 5
+        register 2 700
+    slot 5
+        place receiver
+";
+
+/// B's bytes, as 01 gives them and tests/link/b.c writes them.
+fn b() -> Vec<u8> {
+    let program = [8, 1, 0, 2, 0, 0, 0, 0, 9, 3, 4, 0, 0, 0, 0, 0];
+    let registers_0 = [[0, 0, 0, 0], [0, 0, 0, 5], [0, 0, 0x02, 0xbc]].concat();
+    let mut bytes = [&[1, 0, 16], &program[..], &[0]].concat();
+    bytes.extend([&[0, 37, 1, 0, 0, 0, 0], &registers_0[..], &[0; 5 * 4]].concat());
+    bytes.extend([0; 4 * 2]);
+    bytes.extend([&[0, 37, 1, 0, 0, 0, 2], &[0; 8 * 4][..]].concat());
+    bytes.extend([0; 10 * 2]);
+    bytes
+}
+
+#[test]
+fn image_b() {
+    assert_eq!(b().len(), 126);
+    assert_eq!(image(B), Ok(b()));
+}
+
+#[test]
+fn every_word_has_its_code() {
+    // Words and codes as 01's table has them.
+    let table = [
+        ("end", 0x00),
+        ("set", 0x01),
+        ("copy", 0x02),
+        ("add", 0x03),
+        ("subtract", 0x04),
+        ("go", 0x05),
+        ("zero", 0x06),
+        ("raise", 0x07),
+        ("send", 0x08),
+        ("take", 0x09),
+        ("poll", 0x0a),
+        ("sandbox", 0x0b),
+        ("self", 0x0c),
+    ];
+    for (word, code) in table {
+        let bytes = image(&format!("program\n{word} 1 20 255\n")).unwrap();
+        assert_eq!(bytes[..7], [1, 0, 4, code, 1, 20, 255], "{word}");
+    }
+}
+
+#[test]
+fn every_field_has_its_place() {
+    let text = "program\nend 0 0 0\nturn 7\nslot 15\nkind 4\nlabel 3\nspare 2\nplace 258\n\
+                register 7 4294967295\nregister 0 1\nmessage 8 9 16909060\nmessage 0 0 0\n";
+    let mut should = vec![1, 0, 4, 0, 0, 0, 0, 7];
+    should.extend([0; 15 * 2]);
+    should.extend([0, 37 + 2 * 6, 4, 3, 2, 1, 2]);
+    should.extend([[0, 0, 0, 1], [0; 4], [0; 4], [0; 4], [0; 4], [0; 4], [0; 4], [255; 4]].concat());
+    should.extend([8, 9, 1, 2, 3, 4, 0, 0, 0, 0, 0, 0]);
+    assert_eq!(image(text), Ok(should));
+}
+
+#[test]
+fn fields_share_lines() {
+    let apart = "slot 4\nlabel 3\nregister 2 9\nmessage 0 1 2\nmessage 0 1 2\n";
+    assert_eq!(image("slot 4 label 3 register 2 9\nmessage 0 1 2 message 0 1 2\n"), image(apart));
+    assert!(image(apart).is_ok());
+}
+
+#[test]
+fn names_are_places() {
+    let text = "program\nfirst:\nalso-first:\ngo last_2 0 0\nlast_2:\npoll 1 2 first\nbehind:\nslot 0\nplace behind\n";
+    let bytes = image(text).unwrap();
+    assert_eq!(bytes[3..11], [5, 1, 0, 0, 10, 1, 2, 0]);
+    assert_eq!(bytes[12..19], [0, 37, 1, 0, 0, 0, 2]);
+}
+
+#[test]
+fn what_is_not_given_is_0() {
+    let nothing = [&[1, 0, 0, 0], &[0; 16 * 2][..]].concat();
+    assert_eq!(image(""), Ok(nothing.clone()));
+    assert_eq!(image("# a comment\n\n   \t# another\nprogram # and one behind a word\r\n"), Ok(nothing));
+}
+
+/// These break 01's image rules, which the monitor judges.
+#[test]
+fn image_rules_are_left_to_the_monitor() {
+    for text in ["program\nraise 16 0 0\n", "turn 16\n", "slot 3\nspare 13\n", "slot 0\nkind 9\nmessage 255 16 0\n"] {
+        assert!(image(text).is_ok(), "{text}");
+    }
+}
+
+/// Each text has the fault beside it, told with its line.
+fn expect_faults(texts: &[(&str, &str)]) {
+    for (text, should) in texts {
+        let fault = image(text).expect_err(text);
+        assert_eq!(fault.to_string(), *should, "{text}");
+    }
+}
+
+#[test]
+fn faults_of_sections() {
+    expect_faults(&[
+        ("# none\nend 0 0 0\n", "2: expected `program`, `turn SLOT` or `slot SLOT`"),
+        ("program 4\n", "1: expected `program`, `turn SLOT` or `slot SLOT`"),
+        ("turn\n", "1: expected `program`, `turn SLOT` or `slot SLOT`"),
+        ("slot\n", "1: expected `program`, `turn SLOT` or `slot SLOT`"),
+        ("program\nprogram\n", "2: this part of the image is given twice"),
+        ("turn 0\nturn 1\n", "2: this part of the image is given twice"),
+        ("slot 4\nslot 5\nslot 4\n", "3: this part of the image is given twice"),
+        ("turn 256\n", "1: `256` is too large for a field of 8 bits"),
+        ("turn 0\nlabel 1\n", "2: nothing belongs to `turn` but its slot"),
+        ("slot 16\n", "1: there is no slot 16: the last is 15"),
+    ]);
+}
+
+#[test]
+fn faults_of_programs() {
+    let too_many = format!("program\n{}", "end 0 0 0\n".repeat(65_536 / 4));
+    let far = format!("program\n{}far:\ngo far 0 0\n", "end 0 0 0\n".repeat(256));
+    expect_faults(&[
+        ("program\nadd 1 2 3\nhalt 0 0 0\n", "3: `halt` is not an instruction"),
+        ("program\nEnd 0 0 0\n", "2: `End` is not an instruction"),
+        ("program\nend\n", "2: `end` takes three operands, not 0"),
+        ("program\nend 0 0 0 0\n", "2: `end` takes three operands, not 4"),
+        ("program\nset 1 0 256\n", "2: `256` is too large for a field of 8 bits"),
+        ("program\nset 1 00 1\n", "2: `00` is not a decimal number without leading zeros"),
+        ("program\nset 1 -1 0\n", "2: `-1` is not a decimal number without leading zeros"),
+        ("program\nset 1 +1 0\n", "2: `+1` is not a decimal number without leading zeros"),
+        ("program\nset 1 0x1 0\n", "2: `0x1` is not a decimal number without leading zeros"),
+        ("program\ngo there 0 0\n", "2: no place has the name `there`"),
+        (&far, "259: `far` is too large for a field of 8 bits"),
+        ("program\na:\nend 0 0 0\na:\n", "4: the name `a` is given twice"),
+        ("program\n1st:\n", "2: `1st` is not a name: a letter, then letters, digits, - and _"),
+        ("program\n:\n", "2: `` is not a name: a letter, then letters, digits, - and _"),
+        (&too_many, "1: 65536 bytes are too many for a 2-byte length"),
+    ]);
+}
+
+#[test]
+fn faults_of_tasks() {
+    let no_field = |at: &str| {
+        format!("{at}: expected `kind K`, `label L`, `spare K`, `place P`, `register R VALUE` or `message LABEL SENDER VALUE`")
+    };
+    let full = format!("turn 0\nslot 0\n{}", "message 0 0 0\n".repeat(10_917));
+    expect_faults(&[
+        ("slot 0 0\n", &(no_field("1") + " at `0`")),
+        ("slot 0 label 1 kind\n", &(no_field("1") + " at `kind`")),
+        ("slot 0\nmessage 0 0\n", &(no_field("2") + " at `message 0 0`")),
+        ("slot 0\nend 0 0 0\n", &(no_field("2") + " at `end 0 0 0`")),
+        ("slot 0\nplace 65536\n", "2: `65536` is too large for a field of 16 bits"),
+        ("slot 0\nplace start\nprogram\nstart:\n", "2: no place has the name `start`"),
+        ("slot 0\nregister 8 0\n", "2: there is no register 8: the last is 7"),
+        ("slot 0\nregister 1 4294967296\n", "2: `4294967296` is too large for a field of 32 bits"),
+        ("slot 0 register 1 1\nregister 1 2\n", "2: `register 1` is given twice"),
+        ("slot 0\nlabel 1\n\nlabel 1\n", "4: `label` is given twice"),
+        (&full, "2: 65539 bytes are too many for a 2-byte length"),
+    ]);
+}
+
+// ---- the program
+
+fn imagetext(arguments: &[&str]) -> Output {
+    Command::new(env!("CARGO_BIN_EXE_imagetext")).args(arguments).output().unwrap()
+}
+
+fn file(name: &str, text: &str) -> String {
+    let path = format!("{}/{name}", env!("CARGO_TARGET_TMPDIR"));
+    std::fs::write(&path, text).unwrap();
+    path
+}
+
+#[test]
+fn the_program_writes_the_image() {
+    let output = imagetext(&[&file("b.txt", B)]);
+    assert_eq!((output.status.code(), output.stdout, output.stderr), (Some(0), b(), vec![]));
+}
+
+#[test]
+fn the_program_names_file_and_line() {
+    let path = file("fault.txt", "program\nhalt 0 0 0\n");
+    let output = imagetext(&[&path]);
+    let message = format!("{path}:2: `halt` is not an instruction\n");
+    assert_eq!((output.status.code(), output.stdout, output.stderr), (Some(1), vec![], message.into_bytes()));
+}
+
+#[test]
+fn the_program_says_how_it_is_used() {
+    for arguments in [&[][..], &["a", "b"]] {
+        let output = imagetext(arguments);
+        let usage = b"usage: imagetext FILE\n".to_vec();
+        assert_eq!((output.status.code(), output.stdout, output.stderr), (Some(2), vec![], usage));
+    }
+    assert_eq!(imagetext(&["no such file"]).status.code(), Some(1));
+}

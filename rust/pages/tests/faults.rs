@@ -1,0 +1,69 @@
+//! A page that has not the form of examples, or says something else than the monitor, is a fault with its line.
+
+use pages::{compare, Compared};
+
+const PAGE: &str = "\
+# A page
+
+```example
+program
+    raise 1 0 0
+slot 0  register 7 9
+
+after 0 turns, observer 0
+slot kind label spare pc mail
+0 1 0 0 0 0
+register 7 of slot 0 is 9
+after 1 turn, observer 0
+slot kind label spare pc mail
+after 1 turn, observer 16
+refused 1
+```
+```example
+slot 0
+after 1 turn, observer 0
+refused 5
+```
+";
+
+#[test]
+fn everything_is_counted() {
+    assert_eq!(compare(PAGE), Ok(Compared { images: 2, sheets: 4, registers: 1 }));
+    assert_eq!(compare("# No example\n"), Ok(Compared { images: 0, sheets: 0, registers: 0 }));
+}
+
+/// The page with one change has this fault.
+fn expect_fault(from: &str, to: &str, should: &str) {
+    assert_eq!(PAGE.matches(from).count(), 1, "{from}");
+    let fault = compare(&PAGE.replace(from, to)).expect_err(to);
+    assert_eq!(fault.to_string(), should);
+}
+
+#[test]
+fn what_the_monitor_does_not_give() {
+    let sheet = "slot kind label spare pc mail\n0 1 0 0 0 0\n";
+    expect_fault("\n0 1 0 0 0 0\n", "\n0 1 0 0 1 0\n", &format!("8: the monitor gives\n{sheet}"));
+    expect_fault("\n0 1 0 0 0 0\n", "\n0 1 0 0 0 0\n\n", &format!("8: the monitor gives\n{sheet}"));
+    expect_fault("after 0 turns", "after 1 turns", "8: the monitor gives\nslot kind label spare pc mail\n");
+    expect_fault("refused 1", "refused 2", "14: the monitor gives\nrefused 1\n");
+    expect_fault("is 9", "is 8", "11: the monitor gives 9");
+    expect_fault("register 7 of", "register 8 of", "11: the observer is shown no such register");
+    expect_fault("of slot 0", "of slot 1", "11: the observer is shown no such register");
+}
+
+#[test]
+fn what_has_not_the_form() {
+    expect_fault("```example\nprogram", "```\nprogram", "3: the block's word is ``, not `example`");
+    expect_fault("```example\nprogram", "```exmaple\nprogram", "3: the block's word is `exmaple`, not `example`");
+    expect_fault("refused 1\n```", "refused 1", "3: this block is not closed");
+    expect_fault("refused 5\n```", "refused 5", "17: this block is not closed");
+    expect_fault("raise 1", "rise 1", "5: `rise` is not an instruction");
+    expect_fault("after 0 turns,", "after 0 turns", "8: `after 0 turns observer 0` is not `after N turns, observer V`");
+    expect_fault(
+        "turn, observer 16",
+        "turn, observer x",
+        "14: `after 1 turn, observer x` is not `after N turns, observer V`",
+    );
+    expect_fault("slot 0 is 9", "slot 0: 9", "11: `register 7 of slot 0: 9` is not `register R of slot S is VALUE`");
+    expect_fault("slot 0\nafter 1 turn, ", "slot 0\n# ", "17: this example has no line `after N turns, observer V`");
+}
