@@ -1,19 +1,13 @@
 -- The claims of specs/Claims.antt hold.
 use mathlib.Core.Path.{refl, ap}
-use Rattle.machine.specs.Machine.{view}
-use Rattle.machine.proofs.Machine.{view-valid}
-use Rattle.image.specs.Image.{stateOf}
-use Rattle.image.proofs.Image.{accepted-valid}
 use Rattle.monitor.specs.Calls.{callNumber, callAnswer, callOutput}
 use Rattle.monitor.proofs.Secrecy.{states-same}
 use Rattle.sheet.specs.Sheet.{sheetText}
 use Rattle.sheet.specs.Claims.{SheetLength, SheetsFollowViews}
-use Rattle.sheet.proofs.Sheet.{sheet-length}
+use Rattle.sheet.proofs.Sheet.{sheet-fits}
 
 pub sheets-fit : SheetLength
-sheets-fit v image a =
-    let s = stateOf image in
-    sheet-length (view v s) (view-valid v s (accepted-valid image (a .bytes) (a .number)))
+sheets-fit v image a = sheet-fits v image (a .bytes) (a .number)
 
 pub sheets-follow-views : SheetsFollowViews
 unfolding callNumber callAnswer callOutput

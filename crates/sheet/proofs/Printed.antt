@@ -11,16 +11,14 @@ use lib.ListN.{length, getD, drop}
 use Rattle.wire.specs.Lists.{Bytes}
 use Rattle.wire.specs.Output.{overwrite}
 use Rattle.wire.proofs.Lists.{split}
-use Rattle.machine.specs.Machine.{view}
-use Rattle.machine.proofs.Machine.{view-valid}
 use Rattle.image.specs.Refusal.{_then_, unless}
-use Rattle.image.specs.Image.{imageNumber, stateOf}
+use Rattle.image.specs.Image.{imageNumber}
 use Rattle.image.proofs.Refusal.{then-right, then-stop, then-assoc, then-holds, unless-holds}
-use Rattle.image.proofs.Image.{accepted-valid, image-listed}
+use Rattle.image.proofs.Image.{image-listed}
 use Rattle.monitor.specs.Calls.{callNumber, callAnswer, callOutput}
 use Rattle.monitor.proofs.Calls.{answer-number}
 use Rattle.sheet.specs.Sheet.{sheetBytes, sheetCall, sheetAnswer, sheetOutput, refusalLine, printedFor, printed}
-use Rattle.sheet.proofs.Sheet.{sheet-length, refusal-length}
+use Rattle.sheet.proofs.Sheet.{sheet-fits, refusal-length}
 
 -- ---- an observer byte and an image
 
@@ -30,9 +28,7 @@ module _ (v : ℕ) (image out : List ℕ) (bytes : Bytes image) (room : 318 ≤ 
   met = unless (leb v 15) 1 then imageNumber image
 
   fits : met ≡ 0 → length (sheetBytes v image) ≤ 318
-  fits e =
-      let s = stateOf image in
-      sheet-length (view v s) (view-valid v s (accepted-valid image bytes (then-right (unless (leb v 15) 1) (imageNumber image) e)))
+  fits e = sheet-fits v image bytes (then-right (unless (leb v 15) 1) (imageNumber image) e)
 
   -- 13 is never told
   told : callNumber (sheetCall v image) image out ≡ met

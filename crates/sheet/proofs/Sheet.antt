@@ -1,25 +1,28 @@
 -- Laws of the sheet: that of the table is that of the view, and how long it is at most.
 use Prim.Native.Nat.{ℕ, _+_, _/_, _<_, _≤_}
 use mathlib.Core.Logic.{dite}
-use mathlib.Core.Path.{_≡_, refl, sym, ap, _∙_}
-use mathlib.Core.List.{List, [], _∷_, _++_, map}
+use mathlib.Core.Path.{_≡_, sym, ap}
+use mathlib.Core.List.{List, [], _∷_, _++_}
 use native.Mathlib.Omega.{arith}
 use native.Mathlib.Decide.{decLt}
 use lib.ListN.{length, length-append, List·getD-map}
-use Rattle.wire.specs.Lists.{tabulate}
+use Rattle.wire.specs.Lists.{tabulate, Bytes}
 use Rattle.wire.specs.Items.{encodeItems}
 use Rattle.wire.proofs.Items.{items-most}
 use Rattle.label.specs.Label.{flows}
 use Rattle.instruction.specs.Program.{count}
-use Rattle.machine.specs.State.{Task, Slot, unused, used, State, slotAt}
+use Rattle.machine.specs.State.{Slot, unused, used, State, slotAt}
 use Rattle.machine.specs.View.{viewSlot, view as View·view}
 use Rattle.machine.specs.Machine.{view}
 use Rattle.machine.specs.Valid.{ValidSlot, Valid}
-use Rattle.machine.proofs.Rules.{size-facts, TaskFacts, task-facts}
+use Rattle.machine.proofs.Rules.{size-facts, task-facts}
 use Rattle.machine.proofs.Mailbox.{mailbox-64}
+use Rattle.machine.proofs.Machine.{view-valid}
+use Rattle.image.specs.Image.{imageNumber, stateOf}
+use Rattle.image.proofs.Image.{accepted-valid}
 use Rattle.table.specs.Table.{slotsIn}
 use Rattle.sheet.specs.Text.{ascii, decimal, spaced, lineRest}
-use Rattle.sheet.specs.Sheet.{heading, slotLine, slotLines, sheetText, refusalLine}
+use Rattle.sheet.specs.Sheet.{heading, slotLine, slotLines, sheetText, sheetBytes, refusalLine}
 use Rattle.sheet.specs.Shown.{shownLine, shownLines, shownSheet}
 use Rattle.sheet.proofs.Text.{length-digit, length-more, length-spaced, length-line}
 
@@ -82,18 +85,22 @@ slot-line-length n s (used t) h ok =
       below-100 (length (t .mailbox)) (omega (arith, mailbox-64 (t .mailbox) (f .mailbox))),
     )
 
-pub sheet-length : (s : State) → Valid s → length (sheetText s) ≤ 318
+sheet-length : (s : State) → Valid s → length (sheetText s) ≤ 318
 unfolding sheetText slotLines heading ascii tabulate
 sheet-length s ok =
     let n : count (s .program) ≤ 256 = omega (arith, size-facts (length (s .program)) (ok .size)) in
-    let lines = items-most (λ k. slotLine k (slotAt (s .slots) k)) 18 (λ k. slot-line-length (count (s .program)) k (slotAt (s .slots) k) n (ok .tasks k)) (tabulate 16 (λ k. k)) in
+    let line : (k : ℕ) → length (slotLine k (slotAt (s .slots) k)) ≤ 18
+    = λ k. slot-line-length (count (s .program)) k (slotAt (s .slots) k) n (ok .tasks k) in
+    let lines = items-most (λ k. slotLine k (slotAt (s .slots) k)) 18 line (tabulate 16 (λ k. k)) in
     rw length-append (omega (arith, lines))
 
--- ---- a refusal
+-- of a view of an accepted image
+pub sheet-fits : (v : ℕ) (image : List ℕ) → Bytes image → imageNumber image ≡ 0 → length (sheetBytes v image) ≤ 318
+sheet-fits v image bytes accepted =
+    let s = stateOf image in
+    sheet-length (view v s) (view-valid v s (accepted-valid image bytes accepted))
 
-pub refusal-parts : (n : ℕ) → refusalLine n ≡ ascii "refused" ++ lineRest (n ∷ [])
-unfolding refusalLine
-refusal-parts n = refl
+-- ---- a refusal
 
 pub refusal-length : (n : ℕ) → n < 1000 → length (refusalLine n) ≤ 12
 unfolding refusalLine ascii tabulate encodeItems

@@ -7,43 +7,50 @@ use native.Mathlib.Omega.{arith}
 use borrow.Rule.Slice.PartMut.{putMid}
 use lib.ListN.{length, getD, take, drop, length-append, length-drop}
 use Rattle.wire.specs.Lists.{tabulate}
-use Rattle.wire.specs.Output.{overwrite}
+use Rattle.wire.specs.Output.{overwrite, written}
 use Rattle.wire.proofs.Tabulate.{length-tabulate, getD-tabulate}
-use Rattle.wire.proofs.Output.{length-overwrite, rest, lent, ItemsWritten, items-none, item-room, item-part, items-more, items-size, items-all}
+use Rattle.wire.proofs.Output.{length-overwrite, written-fits, rest, lent, ItemsWritten, items-none, item-room, item-part, items-more, items-size, items-all}
 use Rattle.label.specs.Label.{flows}
 use Rattle.machine.specs.State.{Task, Slot, unused, used, slotAt}
 use Rattle.machine.specs.View.{viewTask, viewSlot}
-use Rattle.table.specs.Table.{slotsIn}
 use Rattle.table.specs.Change.{taskOr, taskAt}
 use Rattle.snapshot.specs.Writing.{isShown}
 use Rattle.sheet.specs.Text.{decimal, lineRest}
-use Rattle.sheet.specs.Sheet.{heading, slotLine}
-use Rattle.sheet.specs.Shown.{shownTaskLine, shownLine, shownLines, shownSheet}
+use Rattle.sheet.specs.Sheet.{slotLine}
+use Rattle.sheet.specs.Shown.{shownTaskLine, shownLine, shownLines}
 
--- ---- one part behind another: w at the front, n bytes, and v into what is lent behind it
+-- ---- one part behind another
 
-module _ {xs : List ℕ} {n : ℕ} (w v out : List ℕ) (size : n ≡ length w) (front : xs ≡ overwrite w out) (room : length (w ++ v) ≤ length out) where
-  pub same-size : length xs ≡ length out
-  same-size = rw front (length-overwrite w out (omega (arith, length-append w v)))
+-- w stands in the first n bytes of xs, and there is room for v behind it
+pub record FrontWritten (w v out xs : List ℕ) (n : ℕ) : Type 0 where
+  pub size : n ≡ length w
+  pub front : xs ≡ overwrite w out
+  pub room : length (w ++ v) ≤ length out
+
+pub front-copied : {xs : List ℕ} (w v out : List ℕ) → length (w ++ v) ≤ length out → xs ≡ written w out → FrontWritten w v out xs (length w)
+front-copied w v out room e = record { size = refl; front = e ∙ written-fits w out (omega (arith, length-append w v)); room = room }
+
+module _ {w v out xs : List ℕ} {n : ℕ} (h : FrontWritten w v out xs n) where
+  same-size : length xs ≡ length out
+  same-size = rw (h .front) (length-overwrite w out (omega (arith, h .room, length-append w v)))
 
   pub part-inside : n ≤ length xs
-  part-inside = omega (arith, same-size, length-append w v)
+  part-inside = omega (arith, same-size, h .size, h .room, length-append w v)
 
+  -- v has room in what is lent
   pub part-room : length v ≤ length (take (length xs - n) (drop n xs))
-  part-room = rw rest (simp length-drop (omega (arith, same-size, length-append w v)))
+  part-room = rw rest (simp length-drop (omega (arith, same-size, h .size, h .room, length-append w v)))
 
-  module _ {ys : List ℕ} {r : ℕ} (told : r ≡ length v) (part : ys ≡ overwrite v (take (length xs - n) (drop n xs))) where
-    pub both-size : n + r ≡ length (w ++ v)
-    both-size = omega (arith, length-append w v)
-
-    pub both-written : putMid n (length xs - n) xs ys ≡ overwrite (w ++ v) out
-    both-written = lent w v out n (sym size) front part
+  -- v was written there, r bytes
+  module _ {ys : List ℕ} {r : ℕ} (wrote : (r ≡ length v) × (ys ≡ overwrite v (take (length xs - n) (drop n xs)))) where
+    pub both-written : (n + r ≡ length (w ++ v)) × (putMid n (length xs - n) xs ys ≡ overwrite (w ++ v) out)
+    both-written = (omega (arith, h .size, wrote .0, length-append w v), lent w v out n (sym (h .size)) (h .front) (wrote .1))
 
     pub both-fit : n + r ≤ length out
-    both-fit = omega (arith, both-size)
+    both-fit = omega (arith, both-written .0, h .room)
 
     pub both-same : length (putMid n (length xs - n) xs ys) ≡ length out
-    both-same = ap length both-written ∙ length-overwrite (w ++ v) out room
+    both-same = ap length (both-written .1) ∙ length-overwrite (w ++ v) out (h .room)
 
 -- ---- a line
 
@@ -113,9 +120,3 @@ module _ (v : ℕ) (ss : List Slot) (out₀ : List ℕ) where
     pub lines-all : out ≡ overwrite (shownLines v ss) out₀
     unfolding shownLines
     lines-all = items-all (shownLine v ss) (tabulate 16 (λ s. s)) out₀ (omega (arith, length-tabulate 16 (λ s. s))) h
-
--- ---- the sheet
-
-pub sheet-parts : (v : ℕ) (words : List ℕ) → shownSheet v words ≡ heading ++ shownLines v (slotsIn words)
-unfolding shownSheet
-sheet-parts v words = refl

@@ -55,12 +55,9 @@ last-digit-written {xs} {n} x out h room k e =
 
 -- ---- a space and a number, and the rest of a line
 
-pub spaced-parts : (x : ℕ) → spaced x ≡ 32 ∷ decimal x
-unfolding spaced ascii tabulate
-spaced-parts x = refl
-
 pub length-spaced : (x : ℕ) → length (spaced x) ≡ 1 + length (decimal x)
-length-spaced x = omega (arith, ap length (spaced-parts x))
+unfolding spaced ascii tabulate
+length-spaced x = omega arith
 
 pub line-parts : (xs : List ℕ) → lineRest xs ≡ encodeItems spaced xs ++ (10 ∷ [])
 unfolding lineRest ascii tabulate

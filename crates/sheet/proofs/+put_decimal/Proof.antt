@@ -1,13 +1,11 @@
 -- `sheet::put_decimal` meets its contract, by way of x / 10: its measure is the number.
 use Prim.Native.Nat.{ℕ, _<_}
-use mathlib.Core.Path.{sym, ap, _∙_}
+use mathlib.Core.Path.{sym, _∙_}
 use native.Mathlib.Omega.{arith}
-use lib.ListN.{length, length-set}
+use lib.ListN.{length-set}
 use denote.Ref.{now}
 use borrow.Fn.Kinds.{In}
 use borrow.Fn.PlainCycle.{Measures, is, falls, and}
-use Rattle.wire.proofs.Output.{length-overwrite}
-use Rattle.sheet.specs.Text.{decimal}
 use Rattle.sheet.proofs.Text.{length-digit, length-more, digit-written, last-digit-written}
 use Rattle.sheet.proofs.put_decimal.Reads as put-decimal
 use Rattle.sheet.proofs.put_decimal.Kinds as put-decimal-kinds

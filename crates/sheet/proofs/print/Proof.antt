@@ -6,9 +6,8 @@ use mathlib.Core.Path.{_≡_, sym, ap, _∙_}
 use mathlib.Core.List.{List}
 use native.Mathlib.Omega.{arith}
 use denote.Ref.{now}
-use lib.ListN.{length, getD, take, drop}
+use lib.ListN.{length, getD, drop}
 use Rattle.wire.specs.Lists.{IsByte, Bytes}
-use Rattle.wire.specs.Output.{overwrite}
 use Rattle.wire.proofs.Lists.{every-of, every-drop}
 use Rattle.wire.proofs.Output.{rest}
 use Rattle.monitor.specs.declared.Answer.{Answer}

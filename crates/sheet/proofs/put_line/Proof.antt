@@ -1,7 +1,6 @@
 -- `sheet::put_line` meets its contract: a line of a task that the observer sees, and nothing of another slot.
 use mathlib.Core.Path.{refl, sym, _∙_}
 use denote.Ref.{now}
-use lib.ListN.{length}
 use Rattle.table.specs.Table.{slotsIn}
 use Rattle.sheet.proofs.Shown.{line-shown, line-hidden}
 use Rattle.sheet.proofs.put_line.Statement.{statement}

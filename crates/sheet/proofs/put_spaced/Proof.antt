@@ -1,44 +1,38 @@
 -- `sheet::put_spaced` meets its contract: the number is written behind the space.
 use borrow.Author.Needs.{needs}
-use mathlib.Core.Path.{refl, ap, _∙_}
+use mathlib.Core.Path.{refl}
 use mathlib.Core.List.{[], _∷_}
 use native.Mathlib.Omega.{arith}
 use denote.Ref.{now}
-use lib.ListN.{length, length-set, length-drop}
+use lib.ListN.{set}
 use lib.Seq.{sets-eq}
-use Rattle.wire.proofs.Output.{lent, rest, length-overwrite}
-use Rattle.sheet.specs.Text.{decimal, spaced}
-use Rattle.sheet.proofs.Text.{spaced-parts, length-spaced}
+use Rattle.wire.specs.Lists.{tabulate}
+use Rattle.sheet.specs.Text.{ascii, decimal, spaced}
+use Rattle.sheet.proofs.Text.{length-spaced}
+use Rattle.sheet.proofs.Shown.{FrontWritten, part-inside, part-room, both-written, both-fit, both-same}
 use Rattle.sheet.proofs.put_spaced.Statement.{statement}
 use Rattle.sheet.proofs.put_spaced.Tie as tie
 
-put-decimal-requires : tie.Need-put-decimal-requires
-put-decimal-requires c κs =
-    let s = c .before .before in
-    rw rest (simp (length-drop, length-set) (omega (arith, length-spaced (s .args .x), s .pre)))
+-- the space is stored
+front : (s : tie.Start) → FrontWritten (32 ∷ []) (decimal (s .args .x)) (now (s .args .out)) (set (now (s .args .out)) 0 32) 1
+unfolding spaced ascii tabulate
+front s = record { size = refl; front = sets-eq (32 ∷ []) (now (s .args .out)) 0 (omega (arith, s .pre)); room = s .pre }
 
 returns : tie.Need-returns
-returns c =
-    let s = c .before .before .before .before .before in
-    let out = now (s .args .out) in
-    let wrote = c .before .before .put-decimal in
-    let store = sets-eq (32 ∷ []) out 0 (omega (arith, length-spaced (s .args .x), s .pre)) in
-    (omega (arith, length-spaced (s .args .x), wrote .ensures .0), rw (spaced-parts (s .args .x)) (lent (32 ∷ []) (decimal (s .args .x)) out 1 refl store (wrote .ensures .1)))
-
-same-length : tie.Need-same-length
-same-length c =
-    let s = c .before .before .before .before .before in
-    ap length (returns c .1) ∙ length-overwrite (spaced (s .args .x)) (now (s .args .out)) (s .pre)
+unfolding spaced ascii tabulate
+returns c = both-written (front (c .before .before .before .before .before)) (c .before .before .put-decimal .ensures)
 
 pub put-spaced-spec : {M : Type 1} → statement M
 put-spaced-spec =
     tie.close
     (tie.spec
     (λ c. omega (arith, length-spaced (c .before .args .x), c .before .pre))
-    (λ c. simp length-set (omega (arith, length-spaced (c .before .args .x), c .before .pre)))
-    (λ c. simp length-set (omega (arith, length-spaced (c .before .args .x), c .before .pre)))
+    (λ c. part-inside (front (c .before)))
+    (λ c. part-inside (front (c .before)))
     (λ c. search needs)
-    put-decimal-requires
-    (λ c. omega (arith, length-spaced (c .before .before .before .before .before .args .x), c .before .before .put-decimal .ensures .0, c .before .before .before .before .before .pre, c .before .before .before .before .before .good .0 .0))
-    same-length
+    (λ c κs. part-room (front (c .before .before)))
+    (λ c.
+    let s = c .before .before .before .before .before in
+    omega (arith, both-fit (front s) (c .before .before .put-decimal .ensures), s .good .0 .0))
+    (λ c. both-same (front (c .before .before .before .before .before)) (c .before .before .put-decimal .ensures))
     returns)

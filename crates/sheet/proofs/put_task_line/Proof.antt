@@ -1,6 +1,6 @@
 -- `sheet::put_task_line` meets its contract: the slot's number, and what was read of the task behind it.
 use Prim.Native.Nat.{ℕ, _≤_}
-use mathlib.Core.Path.{_≡_, ap, _∙_}
+use mathlib.Core.Path.{_≡_}
 use mathlib.Core.List.{List, [], _∷_, _++_}
 use native.Mathlib.Omega.{arith}
 use denote.Ref.{now}
@@ -9,65 +9,49 @@ use Rattle.table.specs.Table.{slotsIn}
 use Rattle.table.specs.Change.{taskAt}
 use Rattle.sheet.specs.Text.{decimal, lineRest}
 use Rattle.sheet.specs.Shown.{shownTaskLine}
-use Rattle.sheet.proofs.Shown.{part-inside, part-room, both-size, both-written, both-fit, both-same, task-line}
+use Rattle.sheet.proofs.Shown.{FrontWritten, part-inside, part-room, both-written, both-fit, both-same, task-line}
 use Rattle.sheet.proofs.put_task_line.Statement.{statement}
 use Rattle.sheet.proofs.put_task_line.Tie as tie
 
--- what the code has read of the task
+abbrev start : tie.After-mail-shown → tie.Start
+start m = m .before .before .before .before .before .before
+
+-- what the code has read of the task, as the rest of its line
 abbrev fields : tie.After-mail-shown → List ℕ
-fields m = m .before .before .before .before .kind .result ∷ m .before .before .before .label .result ∷ m .before .before .spare .result ∷ m .before .pc .result ∷ m .mail-shown .result ∷ []
+fields m =
+    lineRest (m .before .before .before .before .kind .result
+    ∷ m .before .before .before .label .result
+    ∷ m .before .before .spare .result
+    ∷ m .before .pc .result
+    ∷ m .mail-shown .result
+    ∷ [])
 
-line : (m : tie.After-mail-shown) → let a = m .before .before .before .before .before .before .args in
-    shownTaskLine (a .observer) (a .slot) (taskAt (slotsIn (now (a .table))) (a .slot)) ≡ decimal (a .slot) ++ lineRest (fields m)
+line : (m : tie.After-mail-shown) → let a = start m .args in
+    shownTaskLine (a .observer) (a .slot) (taskAt (slotsIn (now (a .table))) (a .slot)) ≡ decimal (a .slot) ++ fields m
 line m =
-    let a = m .before .before .before .before .before .before .args in
+    let a = start m .args in
     task-line (a .observer) (a .slot) (taskAt (slotsIn (now (a .table))) (a .slot))
-    (m .before .before .before .before .kind .ensures) (m .before .before .before .label .ensures) (m .before .before .spare .ensures) (m .before .pc .ensures) (m .mail-shown .ensures .0)
+    (m .before .before .before .before .kind .ensures)
+    (m .before .before .before .label .ensures)
+    (m .before .before .spare .ensures)
+    (m .before .pc .ensures)
+    (m .mail-shown .ensures .0)
 
-room : (m : tie.After-mail-shown) → let a = m .before .before .before .before .before .before .args in length (decimal (a .slot) ++ lineRest (fields m)) ≤ length (now (a .out))
-room m = rw (line m) at (m .before .before .before .before .before .before .pre)
+room : (m : tie.After-mail-shown) → length (decimal (start m .args .slot) ++ fields m) ≤ length (now (start m .args .out))
+room m = rw (line m) at (start m .pre)
 
-put-decimal-requires : tie.Need-put-decimal-requires
-put-decimal-requires c κs =
-    let m = c .before in
-    omega (arith, room m, length-append (decimal (m .before .before .before .before .before .before .args .slot)) (lineRest (fields m)))
+-- the slot's number is written
+front : (c : tie.After-put-decimal) → let m = c .before .before in
+    FrontWritten (decimal (start m .args .slot)) (fields m) (now (start m .args .out)) (c .put-decimal .last .0) (c .put-decimal .result)
+front c = record { size = c .put-decimal .ensures .0; front = c .put-decimal .ensures .1; room = room (c .before .before) }
 
 part : tie.Need-sub-put-line-rest
-part c =
-    let m = c .before .before .before .before in
-    let number = c .before .before .put-decimal in
-    part-inside (decimal (m .before .before .before .before .before .before .args .slot)) (lineRest (fields m)) (now (m .before .before .before .before .before .before .args .out)) (number .ensures .0) (number .ensures .1) (room m)
-
-put-line-rest-requires : tie.Need-put-line-rest-requires
-put-line-rest-requires c κs =
-    let m = c .before .before .before .before .before .before in
-    let number = c .before .before .before .before .put-decimal in
-    part-room (decimal (m .before .before .before .before .before .before .args .slot)) (lineRest (fields m)) (now (m .before .before .before .before .before .before .args .out)) (number .ensures .0) (number .ensures .1) (room m)
-
-add-result : tie.Need-add-result
-add-result c =
-    let m = c .before .before .before .before .before .before .before .before .before in
-    let number = c .before .before .before .before .before .before .before .put-decimal in
-    let others = c .before .before .put-line-rest in
-    let fit = both-fit (decimal (m .before .before .before .before .before .before .args .slot)) (lineRest (fields m)) (now (m .before .before .before .before .before .before .args .out)) (number .ensures .0) (number .ensures .1) (room m) (others .ensures .0) (others .ensures .1) in
-    omega (arith, fit, m .before .before .before .before .before .before .good .0 .0)
+part c = part-inside (front (c .before .before))
 
 returns : tie.Need-returns
 returns c =
-    let m = c .before .before .before .before .before .before .before .before .before in
-    let number = c .before .before .before .before .before .before .before .put-decimal in
-    let others = c .before .before .put-line-rest in
-    rw (line m) (
-      both-size (decimal (m .before .before .before .before .before .before .args .slot)) (lineRest (fields m)) (now (m .before .before .before .before .before .before .args .out)) (number .ensures .0) (number .ensures .1) (room m) (others .ensures .0) (others .ensures .1),
-      both-written (decimal (m .before .before .before .before .before .before .args .slot)) (lineRest (fields m)) (now (m .before .before .before .before .before .before .args .out)) (number .ensures .0) (number .ensures .1) (room m) (others .ensures .0) (others .ensures .1),
-    )
-
-same-length : tie.Need-same-length
-same-length c =
-    let m = c .before .before .before .before .before .before .before .before .before in
-    let number = c .before .before .before .before .before .before .before .put-decimal in
-    let others = c .before .before .put-line-rest in
-    both-same (decimal (m .before .before .before .before .before .before .args .slot)) (lineRest (fields m)) (now (m .before .before .before .before .before .before .args .out)) (number .ensures .0) (number .ensures .1) (room m) (others .ensures .0) (others .ensures .1)
+    let number = c .before .before .before .before .before .before .before in
+    rw (line (number .before .before)) (both-written (front number) (c .before .before .put-line-rest .ensures))
 
 pub put-task-line-spec : {M : Type 1} → statement M
 put-task-line-spec =
@@ -82,12 +66,14 @@ put-task-line-spec =
     (λ c. omega arith)
     (λ c. omega arith)
     (λ c. omega arith)
-    put-decimal-requires
+    (λ c κs. omega (arith, room (c .before), length-append (decimal (start (c .before) .args .slot)) (fields (c .before))))
     part
     part
     (λ c. omega arith)
     (λ c. omega arith)
-    put-line-rest-requires
-    add-result
-    same-length
+    (λ c κs. part-room (front (c .before .before .before .before)))
+    (λ c.
+    let number = c .before .before .before .before .before .before .before in
+    omega (arith, both-fit (front number) (c .before .before .put-line-rest .ensures), start (number .before .before) .good .0 .0))
+    (λ c. both-same (front (c .before .before .before .before .before .before .before)) (c .before .before .put-line-rest .ensures))
     returns)

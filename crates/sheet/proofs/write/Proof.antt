@@ -4,18 +4,14 @@ use mathlib.Core.Path.{_≡_, refl, sym, _∙_}
 use native.Mathlib.Omega.{arith}
 use borrow.Author.Tests.{le-leb, lt-leb}
 use denote.Ref.{now}
-use lib.ListN.{length}
 use Rattle.wire.specs.Lists.{IsByte}
 use Rattle.wire.proofs.Lists.{every-of}
-use Rattle.machine.specs.Machine.{view}
-use Rattle.machine.proofs.Machine.{view-valid}
 use Rattle.image.specs.Image.{imageNumber, stateOf}
-use Rattle.image.proofs.Image.{accepted-valid}
 use Rattle.snapshot.proofs.Loading.{loaded-accepted}
 use Rattle.monitor.proofs.Calls.{call-beyond, call-refused, call-accepted}
 use Rattle.sheet.specs.Sheet.{sheetBytes}
 use Rattle.sheet.specs.Shown.{shownSheet}
-use Rattle.sheet.proofs.Sheet.{sheet-shown, sheet-length}
+use Rattle.sheet.proofs.Sheet.{sheet-shown, sheet-fits}
 use Rattle.sheet.proofs.write.Statement.{statement}
 use Rattle.sheet.proofs.write.Tie as tie
 
@@ -36,10 +32,9 @@ same c =
 
 write-answer-requires : tie.Need-write-answer-requires
 write-answer-requires c κs =
-    let t = c .before .before in
     let a = c .before .before .before .before .before .before .before .before .args in
     let bytes = every-of IsByte 0 (now (a .image)) (λ i. c .before .before .before .before .before .before .before .shared-slice-known .given i .fits) in
-    rw (same t) (sheet-length (view (a .observer) (stateOf (now (a .image)))) (view-valid (a .observer) (stateOf (now (a .image))) (accepted-valid (now (a .image)) bytes (accepted t))))
+    rw (same (c .before .before)) (sheet-fits (a .observer) (now (a .image)) bytes (accepted (c .before .before)))
 
 returns-2 : tie.Need-returns-2
 returns-2 c =
