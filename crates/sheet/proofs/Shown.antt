@@ -1,56 +1,24 @@
 -- Laws of the sheet's lines: what the code reads of a task is its line, and the lines follow one another.
 use Prim.Native.Nat.{ℕ, _+_, _-_, _<_, _≤_}
-use mathlib.Core.Path.{_≡_, refl, sym, ap, _∙_}
+use mathlib.Core.Path.{_≡_, ap}
 use mathlib.Core.Bool.{true, false}
 use mathlib.Core.List.{List, [], _∷_, _++_}
 use native.Mathlib.Omega.{arith}
 use borrow.Rule.Slice.PartMut.{putMid}
-use lib.ListN.{length, getD, take, drop, length-append, length-drop}
+use lib.ListN.{length, getD, take, drop}
 use Rattle.wire.specs.Lists.{tabulate}
-use Rattle.wire.specs.Output.{overwrite, written}
+use Rattle.wire.specs.Output.{overwrite}
 use Rattle.wire.proofs.Tabulate.{length-tabulate, getD-tabulate}
-use Rattle.wire.proofs.Output.{length-overwrite, written-fits, rest, lent, ItemsWritten, items-none, item-room, item-part, items-more, items-size, items-all}
+use Rattle.wire.proofs.Output.{ItemsWritten, items-none, item-room, item-part, items-more, items-size, items-all}
 use Rattle.label.specs.Label.{flows}
-use Rattle.machine.specs.State.{Task, Slot, unused, used, slotAt}
-use Rattle.machine.specs.View.{viewTask, viewSlot}
-use Rattle.table.specs.Change.{taskOr, taskAt}
+use Rattle.machine.specs.State.{Task, Slot, slotAt}
+use Rattle.machine.specs.View.{viewTask}
+use Rattle.table.specs.Change.{taskAt}
 use Rattle.snapshot.specs.Writing.{isShown}
+use Rattle.snapshot.proofs.Writing.{viewSlot-shown, viewSlot-hidden}
 use Rattle.sheet.specs.Text.{decimal, lineRest}
 use Rattle.sheet.specs.Sheet.{slotLine}
 use Rattle.sheet.specs.Shown.{shownTaskLine, shownLine, shownLines}
-
--- ---- one part behind another
-
--- w stands in the first n bytes of xs, and there is room for v behind it
-pub record FrontWritten (w v out xs : List ℕ) (n : ℕ) : Type 0 where
-  pub size : n ≡ length w
-  pub front : xs ≡ overwrite w out
-  pub room : length (w ++ v) ≤ length out
-
-pub front-copied : {xs : List ℕ} (w v out : List ℕ) → length (w ++ v) ≤ length out → xs ≡ written w out → FrontWritten w v out xs (length w)
-front-copied w v out room e = record { size = refl; front = e ∙ written-fits w out (omega (arith, length-append w v)); room = room }
-
-module _ {w v out xs : List ℕ} {n : ℕ} (h : FrontWritten w v out xs n) where
-  same-size : length xs ≡ length out
-  same-size = rw (h .front) (length-overwrite w out (omega (arith, h .room, length-append w v)))
-
-  pub part-inside : n ≤ length xs
-  part-inside = omega (arith, same-size, h .size, h .room, length-append w v)
-
-  -- v has room in what is lent
-  pub part-room : length v ≤ length (take (length xs - n) (drop n xs))
-  part-room = rw rest (simp length-drop (omega (arith, same-size, h .size, h .room, length-append w v)))
-
-  -- v was written there, r bytes
-  module _ {ys : List ℕ} {r : ℕ} (wrote : (r ≡ length v) × (ys ≡ overwrite v (take (length xs - n) (drop n xs)))) where
-    pub both-written : (n + r ≡ length (w ++ v)) × (putMid n (length xs - n) xs ys ≡ overwrite (w ++ v) out)
-    both-written = (omega (arith, h .size, wrote .0, length-append w v), lent w v out n (sym (h .size)) (h .front) (wrote .1))
-
-    pub both-fit : n + r ≤ length out
-    both-fit = omega (arith, both-written .0, h .room)
-
-    pub both-same : length (putMid n (length xs - n) xs ys) ≡ length out
-    both-same = ap length (both-written .1) ∙ length-overwrite (w ++ v) out (h .room)
 
 -- ---- a line
 
@@ -62,24 +30,14 @@ module _ (v s : ℕ) (t : Task) {kind label spare pc mail : ℕ} where
   task-line k l p c m = rw (k, l, p, c, m)
 
 -- by the test in the code
-shown-slot : (v s : ℕ) (x : Slot) → isShown v x ≡ true → slotLine s (viewSlot (λ l. flows l v) x) ≡ slotLine s (used (viewTask (λ l. flows l v) (taskOr x)))
-unfolding isShown
-shown-slot v s unused e = cc
-shown-slot v s (used t) e = rw e
-
-hidden-slot : (v s : ℕ) (x : Slot) → isShown v x ≡ false → slotLine s (viewSlot (λ l. flows l v) x) ≡ []
-unfolding isShown slotLine
-hidden-slot v s unused e = refl
-hidden-slot v s (used t) e = rw e
-
 module _ (v : ℕ) (ss : List Slot) (s : ℕ) where
   pub line-shown : isShown v (slotAt ss s) ≡ true → shownLine v ss s ≡ shownTaskLine v s (taskAt ss s)
   unfolding shownLine shownTaskLine
-  line-shown e = shown-slot v s (slotAt ss s) e
+  line-shown e = ap (slotLine s) (viewSlot-shown v (slotAt ss s) e)
 
   pub line-hidden : isShown v (slotAt ss s) ≡ false → shownLine v ss s ≡ []
-  unfolding shownLine
-  line-hidden e = hidden-slot v s (slotAt ss s) e
+  unfolding shownLine slotLine
+  line-hidden e = ap (slotLine s) (viewSlot-hidden v (slotAt ss s) e)
 
 -- ---- the lines of all slots, one written after another
 

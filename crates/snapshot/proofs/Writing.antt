@@ -81,10 +81,20 @@ unfolding isShown
 shown-used v unused e = cc
 shown-used v (used t) e = refl
 
+-- what it says of the slot in the view
+pub viewSlot-shown : (v : ℕ) (x : Slot) → isShown v x ≡ true → viewSlot (λ l. flows l v) x ≡ used (viewTask (λ l. flows l v) (taskOr x))
+unfolding isShown
+viewSlot-shown v unused e = cc
+viewSlot-shown v (used t) e = rw e
+
+pub viewSlot-hidden : (v : ℕ) (x : Slot) → isShown v x ≡ false → viewSlot (λ l. flows l v) x ≡ unused
+unfolding isShown
+viewSlot-hidden v unused e = refl
+viewSlot-hidden v (used t) e = rw e
+
 pub slot-shown : (v : ℕ) (x : Slot) → isShown v x ≡ true → shownSlot v x ≡ shownTask v (taskOr x)
-unfolding isShown shownSlot shownTask
-slot-shown v unused e = cc
-slot-shown v (used t) e = rw e
+unfolding shownSlot shownTask
+slot-shown v x e = ap slotBytes (viewSlot-shown v x e)
 
 -- a slot in the table that the observer sees
 module _ (words : List ℕ) (s v : ℕ) (shown : isShown v (slotAt (slotsIn words) s) ≡ true) where
@@ -95,9 +105,8 @@ module _ (words : List ℕ) (s v : ℕ) (shown : isShown v (slotAt (slotsIn word
   shown-length = ap length (slot-shown v (slotAt (slotsIn words) s) shown) ∙ task-length v (taskAt (slotsIn words) s) shown-registers
 
 pub slot-hidden : (v : ℕ) (x : Slot) → isShown v x ≡ false → shownSlot v x ≡ 0 ∷ 0 ∷ []
-unfolding isShown shownSlot
-slot-hidden v unused e = refl
-slot-hidden v (used t) e = rw e
+unfolding shownSlot
+slot-hidden v x e = ap slotBytes (viewSlot-hidden v x e)
 
 -- ---- the whole
 

@@ -74,13 +74,45 @@ lent {xs} {ys} w v out a h e f =
     let p : drop (length xs - a) (drop a xs) ≡ [] = drop-of-length-le (drop a xs) (le-of-eq (length-drop a xs)) in
     rw (f, written-front w out a h e, rest, p, written-behind w out a h e) (simp (append-nil, append-assoc, length-append, drop-drop, h))
 
--- the same by a write that has room
+-- ---- one part behind another
+
+-- w stands in the first n bytes of xs, and there is room for v behind it
+pub record FrontWritten (w v out xs : List ℕ) (n : ℕ) : Type 0 where
+  pub size : n ≡ length w
+  pub front : xs ≡ overwrite w out
+  pub room : length (w ++ v) ≤ length out
+
+pub front-copied : {xs : List ℕ} (w v out : List ℕ) → length (w ++ v) ≤ length out → xs ≡ written w out → FrontWritten w v out xs (length w)
+front-copied w v out room e = record { size = refl; front = e ∙ written-fits w out (omega (arith, length-append w v)); room = room }
+
+module _ {w v out xs : List ℕ} {n : ℕ} (h : FrontWritten w v out xs n) where
+  same-size : length xs ≡ length out
+  same-size = rw (h .front) (length-overwrite w out (omega (arith, h .room, length-append w v)))
+
+  pub part-inside : n ≤ length xs
+  part-inside = omega (arith, same-size, h .size, h .room, length-append w v)
+
+  -- v has room in what is lent
+  pub part-room : length v ≤ length (take (length xs - n) (drop n xs))
+  part-room = rw rest (simp length-drop (omega (arith, same-size, h .size, h .room, length-append w v)))
+
+  -- v was written there, r bytes
+  module _ {ys : List ℕ} {r : ℕ} (wrote : (r ≡ length v) × (ys ≡ overwrite v (take (length xs - n) (drop n xs)))) where
+    pub both-written : (n + r ≡ length (w ++ v)) × (putMid n (length xs - n) xs ys ≡ overwrite (w ++ v) out)
+    both-written = (omega (arith, h .size, wrote .0, length-append w v), lent w v out n (sym (h .size)) (h .front) (wrote .1))
+
+    pub both-fit : n + r ≤ length out
+    both-fit = omega (arith, both-written .0, h .room)
+
+    pub both-same : length (putMid n (length xs - n) xs ys) ≡ length out
+    both-same = ap length (both-written .1) ∙ length-overwrite (w ++ v) out (h .room)
+
+-- a write that has room writes all of v there
 pub lent-fits : {xs ys : List ℕ} (w v out : List ℕ) (a : ℕ) → length w ≡ a → length w + length v ≤ length out
     → xs ≡ overwrite w out → ys ≡ written v (take (length xs - a) (drop a xs)) → putMid a (length xs - a) xs ys ≡ overwrite (w ++ v) out
 lent-fits {xs} w v out a h room e f =
-    let l : length xs ≡ length out = rw e (length-overwrite w out (omega arith)) in
-    let fits : length v ≤ length (take (length xs - a) (drop a xs)) = rw rest (simp length-drop (omega arith)) in
-    lent w v out a h e (f ∙ written-fits v (take (length xs - a) (drop a xs)) fits)
+    let front : FrontWritten w v out xs a = record { size = sym h; front = e; room = rw length-append room } in
+    lent w v out a h e (f ∙ written-fits v (take (length xs - a) (drop a xs)) (part-room front))
 
 -- ---- items written one after another, each into what is lent behind those before
 

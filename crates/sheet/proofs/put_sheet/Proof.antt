@@ -5,11 +5,11 @@ use mathlib.Core.List.{List}
 use native.Mathlib.Omega.{arith}
 use denote.Ref.{now}
 use Rattle.wire.specs.Lists.{tabulate}
+use Rattle.wire.proofs.Output.{FrontWritten, front-copied, part-inside, part-room, both-written, both-fit}
 use Rattle.table.specs.Table.{slotsIn}
 use Rattle.sheet.specs.Text.{ascii}
 use Rattle.sheet.specs.Sheet.{heading}
 use Rattle.sheet.specs.Shown.{shownLines, shownSheet}
-use Rattle.sheet.proofs.Shown.{FrontWritten, front-copied, part-inside, part-room, both-written, both-fit}
 use Rattle.sheet.proofs.put_sheet.Statement.{statement}
 use Rattle.sheet.proofs.put_sheet.Tie as tie
 

@@ -7,9 +7,9 @@ use denote.Ref.{now}
 use lib.ListN.{set}
 use lib.Seq.{sets-eq}
 use Rattle.wire.specs.Lists.{tabulate}
+use Rattle.wire.proofs.Output.{FrontWritten, part-inside, part-room, both-written, both-fit, both-same}
 use Rattle.sheet.specs.Text.{ascii, decimal, spaced}
 use Rattle.sheet.proofs.Text.{length-spaced}
-use Rattle.sheet.proofs.Shown.{FrontWritten, part-inside, part-room, both-written, both-fit, both-same}
 use Rattle.sheet.proofs.put_spaced.Statement.{statement}
 use Rattle.sheet.proofs.put_spaced.Tie as tie
 

@@ -5,11 +5,12 @@ use mathlib.Core.List.{List, [], _∷_, _++_}
 use native.Mathlib.Omega.{arith}
 use denote.Ref.{now}
 use lib.ListN.{length, length-append}
+use Rattle.wire.proofs.Output.{FrontWritten, part-inside, part-room, both-written, both-fit, both-same}
 use Rattle.table.specs.Table.{slotsIn}
 use Rattle.table.specs.Change.{taskAt}
 use Rattle.sheet.specs.Text.{decimal, lineRest}
 use Rattle.sheet.specs.Shown.{shownTaskLine}
-use Rattle.sheet.proofs.Shown.{FrontWritten, part-inside, part-room, both-written, both-fit, both-same, task-line}
+use Rattle.sheet.proofs.Shown.{task-line}
 use Rattle.sheet.proofs.put_task_line.Statement.{statement}
 use Rattle.sheet.proofs.put_task_line.Tie as tie
 
