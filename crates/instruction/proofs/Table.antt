@@ -7,6 +7,7 @@ use native.Mathlib.Omega.{arith}
 use borrow.Author.Tests.{eqb-true, ltb-true, leb-true}
 use lib.Dec.{eqb, leb}
 use lib.ListN.{getD}
+use Rattle.wire.specs.Lists.{Every}
 use Rattle.wire.proofs.Lists.{split, and-both}
 use Rattle.instruction.specs.declared.Instruction.{Instruction}
 use Rattle.instruction.specs.declared.Instruction.the-variants.{End, Set, Copy, Add, Subtract, Go, Zero, Raise, Send, Take, Poll, Sandbox, Identity}
@@ -37,13 +38,10 @@ shown-is blank n x t = sym (eqb-true x 0 t)
 abbrev Written : Row → Type 0
 Written r = (a b c : ℕ) → encode (r .form a b c) ≡ r .code ∷ shown (r .a) a ∷ shown (r .b) b ∷ shown (r .c) c ∷ []
 
-abbrev AllWritten : List Row → Type 0
-AllWritten [] = Unit {0}
-AllWritten (r ∷ rs) = Written r × AllWritten rs
-
-written : AllWritten table
+written : Every Written table
 written =
-    (λ a b c. refl, (λ a b c. refl, (λ a b c. refl, (λ a b c. refl, (λ a b c. refl, (λ a b c. refl, (λ a b c. refl, (λ a b c. refl, (λ a b c. refl, (λ a b c. refl, (λ a b c. refl, (λ a b c. refl, (λ a b c. refl, tt)))))))))))))
+    (λ a b c. refl, (λ a b c. refl, (λ a b c. refl, (λ a b c. refl, (λ a b c. refl, (λ a b c. refl, (λ a b c. refl,
+    (λ a b c. refl, (λ a b c. refl, (λ a b c. refl, (λ a b c. refl, (λ a b c. refl, (λ a b c. refl, tt)))))))))))))
 
 row-back : (r : Row) → Written r → (n a b c : ℕ) (t : Bool) → (admits (r .a) n a && admits (r .b) n b && admits (r .c) n c) ≡ t
     → (i : Instruction) → legalIf t (r .form a b c) ≡ Legal i → encode i ≡ r .code ∷ a ∷ b ∷ c ∷ []
@@ -53,7 +51,7 @@ row-back r w n a b c true t i e =
     cc (w a b c, shown-is (r .a) n a (ab .0), shown-is (r .b) n b (ab .1), shown-is (r .c) n c (abc .1))
 row-back r w n a b c false t i e = cc
 
-rows-back : (rs : List Row) → AllWritten rs → (n code a b c : ℕ) (i : Instruction) → decodeBy rs n code a b c ≡ Legal i → encode i ≡ code ∷ a ∷ b ∷ c ∷ []
+rows-back : (rs : List Row) → Every Written rs → (n code a b c : ℕ) (i : Instruction) → decodeBy rs n code a b c ≡ Legal i → encode i ≡ code ∷ a ∷ b ∷ c ∷ []
 rows-back [] w n code a b c i e = cc
 rows-back (r ∷ rs) w n code a b c i e =
     let ih = rows-back rs (w .1) n code a b c i in
