@@ -28,7 +28,7 @@ bits-ext (suc n) a b h k e =
     omega arith
 
 module _ (n k m : ℕ) (fits : k < 2 ^ n) where
-  pub mask-subset : eqb (bitAnd k m) k ≡ each n (λ o. leb (bit o k) (bit o m))
+  mask-subset : eqb (bitAnd k m) k ≡ each n (λ o. leb (bit o k) (bit o m))
   mask-subset = split (each n (λ o. leb (bit o k) (bit o m))) (λ e. rw e (whole e)) (λ e. rw e (part e))
     where
       whole : each n (λ o. leb (bit o k) (bit o m)) ≡ true → eqb (bitAnd k m) k ≡ true

@@ -16,7 +16,7 @@ use Rattle.machine.proofs.Turn as Turn
 use Rattle.machine.proofs.Kept as Kept
 
 -- what flows to a label that flows to v flows to v
-pub observer-down : (v : ℕ) → DownClosed flows (λ l. flows l v)
+observer-down : (v : ℕ) → DownClosed flows (λ l. flows l v)
 observer-down v k l = label-order .transitive k l v
 
 -- ---- validity is kept

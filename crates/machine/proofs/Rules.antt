@@ -42,7 +42,7 @@ messages-facts (m ∷ ms) e v =
     let e₃ = and-both (leb (m .label) 15) (leb (m .sender) lastSender) (e₂ .0) in
     (record { label = leb-true _ _ (e₃ .0); sender = leb-true _ _ (e₃ .1); value = v .0 }, messages-facts ms (e₂ .1) (v .1))
 
-pub mailbox-facts : (ms : List Message) → mailInRange ms ≡ true → Every (λ m. m .value < 2 ^ 32) ms → MailboxFacts ms
+mailbox-facts : (ms : List Message) → mailInRange ms ≡ true → Every (λ m. m .value < 2 ^ 32) ms → MailboxFacts ms
 mailbox-facts ms e v =
     let e₂ = and-both (all messageInRange ms) (each 16 (λ l. leb (length (ofLabel l ms)) 4)) e in
     record {

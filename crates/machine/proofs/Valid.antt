@@ -253,7 +253,7 @@ module _ (flows : ℕ → ℕ → Bool) (join : ℕ → ℕ → ℕ) (order : Or
         (λ e. rw e (spares-applied (s .slots) (valid-spares s ok) i t at flows (outcome flows join (s .program) i t) (outcome-contained flows join order i t (s .program))))
         (λ e. rw e (valid-spares s ok))
 
-  pub turn-valid : (s : State) → Valid s → Valid (turn flows join s)
+  turn-valid : (s : State) → Valid s → Valid (turn flows join s)
   unfolding turn
   turn-valid s ok =
       let x = slotAt (s .slots) (s .turnSlot) in

@@ -264,11 +264,11 @@ module _ {A : Type 0} (p : A → Bool) where
   keep-done xs i n h c = let none : length (keep p (drop i xs)) ≡ 0 = rw (drop-of-length-le xs {i = i} h) in omega arith
 
   -- of what f makes of the elements
-  pub first-map : {B : Type 0} (f : B → A) (xs : List B) → firstIndex p (map f xs) ≡ firstIndex (λ x. p (f x)) xs
+  first-map : {B : Type 0} (f : B → A) (xs : List B) → firstIndex p (map f xs) ≡ firstIndex (λ x. p (f x)) xs
   first-map f [] = refl
   first-map f (x ∷ xs) = rw (first-map f xs)
 
-  pub length-keep-map : {B : Type 0} (f : B → A) (xs : List B) → length (keep p (map f xs)) ≡ length (keep (λ x. p (f x)) xs)
+  length-keep-map : {B : Type 0} (f : B → A) (xs : List B) → length (keep p (map f xs)) ≡ length (keep (λ x. p (f x)) xs)
   length-keep-map f [] = refl
   length-keep-map f (x ∷ xs) = let ih = length-keep-map f xs in split (p (f x)) (λ e. rw (e, ih)) (λ e. rw (e, ih))
 
