@@ -53,7 +53,9 @@ task-back (x ∷ y ∷ z ∷ r) h l e =
     let l₂ : 32 ≤ length (drop 2 r) = simp length-drop (omega arith) in
     let m : length (drop 34 r) % 6 ≡ 0 = simp length-drop (omega arith) in
     ap (λ (t : List ℕ). x ∷ y ∷ z ∷ t)
-    (ap₂ (λ (p q : List ℕ). p ++ q) (ap₂ (λ (p q : List ℕ). p ++ q) (encode-decode 2 r g (omega arith)) (registers-back (drop 2 r) (every-drop IsByte 2 r g) l₂)) (mailbox-back (drop 34 r) (every-drop IsByte 34 r g) m)
+    (ap₂ (λ (p q : List ℕ). p ++ q)
+    (ap₂ (λ (p q : List ℕ). p ++ q) (encode-decode 2 r g (omega arith)) (registers-back (drop 2 r) (every-drop IsByte 2 r g) l₂))
+    (mailbox-back (drop 34 r) (every-drop IsByte 34 r g) m)
     ∙ ap (λ (p : List ℕ). p ++ drop 34 r) (sym (take-add 2 32 r)) ∙ take-append-drop 34 r)
 
 -- ---- a task to bytes and back
@@ -71,7 +73,9 @@ mailbox-forth : (ms : List Message) → Every (λ m. m .value < 2 ^ 32) ms
     → decodeItems 6 messageOf (length (encodeItems messageBytes ms) / 6) (encodeItems messageBytes ms) ≡ ms
 mailbox-forth ms h =
     let e : length (encodeItems messageBytes ms) / 6 ≡ length ms = omega (arith, length-mailbox ms) in
-    rw e (ap (decodeItems 6 messageOf (length ms)) (sym (append-nil (encodeItems messageBytes ms))) ∙ items-forth 6 messageOf messageBytes (λ (m : Message). m .value < 2 ^ 32) (λ m. refl) message-forth ms [] h)
+    rw e
+    (ap (decodeItems 6 messageOf (length ms)) (sym (append-nil (encodeItems messageBytes ms)))
+    ∙ items-forth 6 messageOf messageBytes (λ (m : Message). m .value < 2 ^ 32) (λ m. refl) message-forth ms [] h)
 
 registers-forth : (xs q : List ℕ) → length xs ≡ 8 → Every (λ x. x < 2 ^ 32) xs → decodeItems 4 (decodeNumber 4) 8 (encodeItems (encodeNumber 4) xs ++ q) ≡ xs
 registers-forth xs q e h =

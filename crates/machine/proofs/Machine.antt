@@ -68,7 +68,9 @@ turns-same v = Turn.turns-same flows join label-order (λ l. flows l v) (observe
 
 slot-seen : (n s : ℕ) (x : Slot) → SlotFacts n s x → AllSeen (λ l. flows l 15) x
 slot-seen n s unused h = tt
-slot-seen n s (used t) h = (flows-15 (t .label) (h .label), every-weaken MessageFacts (λ (m : Message). flows (m .label) 15 ≡ true) (λ m f. flows-15 (m .label) (f .label)) (t .mailbox) (h .mailbox .each))
+slot-seen n s (used t) h =
+    let message : (m : Message) → MessageFacts m → flows (m .label) 15 ≡ true = λ m f. flows-15 (m .label) (f .label) in
+    (flows-15 (t .label) (h .label), every-weaken MessageFacts (λ (m : Message). flows (m .label) 15 ≡ true) message (t .mailbox) (h .mailbox .each))
 
 -- the observer 15 sees everything
 pub view-15 : (s : State) → Valid s → view 15 s ≡ s
