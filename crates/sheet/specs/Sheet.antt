@@ -49,10 +49,10 @@ sheetOutput v image out = callOutput (sheetCall v image) image out
 unfoldable pub refusalLine : ℕ → List ℕ
 refusalLine n = ascii "refused" ++ lineRest (n ∷ [])
 
--- of an observer byte and an image
+-- of an observer byte and an image: the sheet, or the number that the call tells where its output has room
 abbrev pub printedFor : ℕ → List ℕ → List ℕ
 printedFor v image =
-    let n = unless (leb v 15) 1 then imageNumber image in
+    let n = sheetCall v image .argumentNumber then imageNumber image in
     cond (eqb n 0) (sheetBytes v image) (refusalLine n)
 
 -- of standard input: one observer byte and then an image. Empty input prints `refused 3`.

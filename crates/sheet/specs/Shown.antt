@@ -9,7 +9,7 @@ use Rattle.machine.specs.View.{viewTask, viewSlot}
 use Rattle.table.specs.Table.{slotsIn}
 use Rattle.sheet.specs.Sheet.{heading, slotLine}
 
--- the line of a task that is in the view for label v, and of slot s
+-- the line of a task in slot s that the view for label v has, and the line of slot s in that view
 unfoldable pub shownTaskLine : ℕ → ℕ → Task → List ℕ
 shownTaskLine v s t = slotLine s (used (viewTask (λ l. flows l v) t))
 

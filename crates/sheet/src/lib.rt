@@ -14,8 +14,8 @@ ghost use Rattle.sheet.specs.Shown.{shownTaskLine, shownLine, shownLines
 // No sheet is longer, in bytes: the heading, and sixteen lines of at most eighteen.
 pub const SHEET_MAX: usize = 318;
 
-// The longest input that the program takes.
-const INPUT_MAX: usize = 8192;
+// The longest input that the program takes, in bytes.
+pub const INPUT_MAX: usize = 8192;
 
 // ---- numbers
 
@@ -126,7 +126,7 @@ fn put_sheet(out: &mut [u8], table: &[u32; 3328], observer: u8) -> usize
 }
 
 // Ends a call whose image is accepted: writes the sheet of the table's tasks as the observer sees them, or tells 13 where
-// the output has no room for it.
+// the output has no room for it. The sheet is made in a buffer of its own first: only then is its length known.
 fn write_answer(out: &mut [u8], table: &[u32; 3328], observer: u8) -> monitor::Answer
     requires { ⌜ length (shownSheet observer (now table)) ≤ 318 ⌝ }
     ensures { λ r. ⌜ (r ≡ outputAnswer (shownSheet observer (now (table .entry))) 0 (now (out .entry)))

@@ -1,7 +1,7 @@
 // The program `slotsheet`: reads one observer byte and an image from standard input and prints the observer sheet.
 
-// One byte more than the input buffer of 8,192, so that a longer input is seen to be longer.
-const READ_MAX: usize = 8193;
+// One byte more than the program takes, so that a longer input is seen to be longer.
+const READ_MAX: usize = sheet::INPUT_MAX + 1;
 
 fn main() {
     let mut input: [u8; READ_MAX] = [0; READ_MAX];
