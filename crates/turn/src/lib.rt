@@ -172,7 +172,7 @@ fn poll(table: &mut [u32; 3328], slot: u8, a: u8, b: u8, c: u8)
 
 // ---- new tasks
 
-// The new task of a sandbox in slot `child`, with the parent's label, and its slot in register 0.
+// The new task of a sandbox in slot `child`, with the parent's label, and the parent's slot in register 0.
 fn spawn(table: &mut [u32; 3328], child: usize, parent: u8, label: u8, pc: u8, size: u8)
     requires { ⌜ 1 ≤ size ⌝ }
     ensures { λ _. ⌜ slotsIn (now (table .exit)) ≡ set (slotsIn (now (table .entry))) child (used (childOf parent label pc size)) ⌝ }

@@ -1,4 +1,4 @@
--- `table::oldest` meets its contract: no message before the one at index i flows to the label.
+-- `table::oldest` meets its contract: no message before the one at index i has a label that flows to the given one.
 use Prim.Native.Nat.{ℕ, _-_, _≤_, _%_}
 use mathlib.Core.Path.{_≡_, sym, _∙_}
 use mathlib.Core.Bool.{Bool}
