@@ -1,22 +1,36 @@
 -- Laws of a call: when it is accepted, what it then tells and writes, and which numbers it may tell.
-use Prim.Native.Nat.{ℕ, suc, _≤_}
+use Prim.Native.Nat.{ℕ, suc, _<_, _≤_}
 use mathlib.Core.Logic.{_≢_}
-use mathlib.Core.Path.{_≡_, refl, sym, _∙_}
+use mathlib.Core.Path.{_≡_, refl, sym, ap, _∙_}
 use mathlib.Core.Bool.{cond}
 use mathlib.Core.List.{List, []}
 use native.Mathlib.Omega.{arith}
-use borrow.Author.Tests.{leb-true, le-leb, eqb-true, eqb-false, ne-eqb}
+use borrow.Author.Tests.{leb-true, le-leb, lt-leb, eqb-true, eqb-false, ne-eqb}
 use lib.Dec.{leb, eqb}
 use lib.ListN.{length, take}
 use Rattle.wire.specs.Output.{overwrite, written}
 use Rattle.wire.proofs.Lists.{split}
-use Rattle.wire.proofs.Output.{take-overwrite, drop-overwrite, length-overwrite}
+use Rattle.wire.proofs.Output.{take-overwrite, drop-overwrite, length-overwrite, length-written}
 use Rattle.image.specs.Refusal.{_then_, unless}
 use Rattle.image.specs.Image.{imageNumber}
 use Rattle.image.proofs.Refusal.{then-stop, then-left, then-right, then-holds, unless-holds, unless-none}
 use Rattle.monitor.specs.declared.Answer.{Answer}
 use Rattle.monitor.specs.Calls.{Call, callNumber, refusal, outputAnswer, callAnswer, callOutput}
 use Rattle.monitor.specs.Claims.{AcceptedExactly, WritesItsAnswer}
+
+-- ---- what is told once b was written where the output has room: r, its length, is compared with the output's
+
+module _ (b out : List ℕ) (busy : ℕ) {r : ℕ} {after : List ℕ} (size : r ≡ length b) (wrote : after ≡ written b out) where
+  same-size : length after ≡ length out
+  same-size = ap length wrote ∙ length-written b out
+
+  pub told-fits : r ≤ length after → record { number = 0; length = r; busy = busy } ≡ outputAnswer b busy out
+  told-fits h = rw (size, le-leb (length b) (length out) (omega (arith, size, same-size)))
+
+  pub told-13 : length after < r → {told : Answer} → told ≡ refusal 13 → told ≡ outputAnswer b busy out
+  told-13 h e = rw (lt-leb (length b) (length out) (omega (arith, size, same-size))) e
+
+-- ---- a call by its number
 
 module _ (c : Call) (image out : List ℕ) where
   -- what the call tells as its number

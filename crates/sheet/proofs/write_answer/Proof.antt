@@ -3,12 +3,11 @@ use borrow.Author.Needs.{needs}
 use Prim.Native.Nat.{ℕ}
 use mathlib.Core.Path.{_≡_, sym, ap, _∙_}
 use mathlib.Core.List.{List}
-use native.Mathlib.Omega.{arith}
-use borrow.Author.Tests.{le-leb, lt-leb}
 use denote.Ref.{now}
 use lib.ListN.{length, take}
 use Rattle.wire.specs.Output.{written}
-use Rattle.wire.proofs.Output.{written-front, length-written}
+use Rattle.wire.proofs.Output.{written-front}
+use Rattle.monitor.proofs.Calls.{told-fits, told-13}
 use Rattle.sheet.specs.Shown.{shownSheet}
 use Rattle.sheet.proofs.write_answer.Statement.{statement}
 use Rattle.sheet.proofs.write_answer.Tie as tie
@@ -28,16 +27,14 @@ returns c =
     let p = c .before .before .before .before .before .before .before in
     let a = p .before .before .before .args in
     let after = c .before .before .before .copy .ensures ∙ ap (λ (w : List ℕ). written w (now (a .out))) (front p) in
-    let room = ap length after ∙ length-written (text p) (now (a .out)) in
-    (rw (p .put-sheet .ensures .0, le-leb (length (text p)) (length (now (a .out))) (omega (arith, p .put-sheet .ensures .0, room))), after)
+    (told-fits (text p) (now (a .out)) 0 (p .put-sheet .ensures .0) after (c .if1 .taken), after)
 
 returns-2 : tie.Need-returns-2
 returns-2 c =
     let p = c .before .before .before .before .before .before .before .before in
     let a = p .before .before .before .args in
     let after = c .before .before .before .before .copy .ensures ∙ ap (λ (w : List ℕ). written w (now (a .out))) (front p) in
-    let room = ap length after ∙ length-written (text p) (now (a .out)) in
-    (rw (lt-leb (length (text p)) (length (now (a .out))) (omega (arith, p .put-sheet .ensures .0, room))) (c .refused .ensures), after)
+    (told-13 (text p) (now (a .out)) 0 (p .put-sheet .ensures .0) after (c .before .if1 .left) (c .refused .ensures), after)
 
 pub write-answer-spec : {M : Type 1} → statement M
 write-answer-spec =
