@@ -41,7 +41,16 @@ module _ (n s : ℕ) (t : Task) (ok : TaskFacts n s t) where
   label-ok l h = record { kind-low = ok .kind-low; kind-high = ok .kind-high; label = h; spare = ok .spare; pc = ok .pc; registers = ok .registers; words = ok .words; mailbox = ok .mailbox }
 
   spare-ok : (k : ℕ) → k ≤ t .spare → TaskFacts n s (withSpare k t)
-  spare-ok k h = record { kind-low = ok .kind-low; kind-high = ok .kind-high; label = ok .label; spare = omega (arith, ok .spare); pc = ok .pc; registers = ok .registers; words = ok .words; mailbox = ok .mailbox }
+  spare-ok k h = record {
+    kind-low = ok .kind-low;
+    kind-high = ok .kind-high;
+    label = ok .label;
+    spare = omega (arith, ok .spare);
+    pc = ok .pc;
+    registers = ok .registers;
+    words = ok .words;
+    mailbox = ok .mailbox;
+  }
 
   pc-ok : (x : ℕ) → x ≤ n → TaskFacts n s (withPc x t)
   pc-ok x h = record { kind-low = ok .kind-low; kind-high = ok .kind-high; label = ok .label; spare = ok .spare; pc = h; registers = ok .registers; words = ok .words; mailbox = ok .mailbox }

@@ -26,7 +26,8 @@ returns c =
     let d = c .before .before in
     let h = c .before .before .before .before .before .loop in
     rw (← c .before .before .before .before .before .before .drop .ensures)
-    (sym (message-fifth _ (h .j) _ _ (d .before .byte-at .ensures) (d .byte-at2 .ensures) (h .counts) (h .inv .1) (c .before .if1 .taken) _ (c .before .before .before .before .loop-test .taken) (c .if2 .left)))
+    (sym (message-fifth _ (h .j) _ _ (d .before .byte-at .ensures) (d .byte-at2 .ensures) (h .counts) (h .inv .1)
+    (c .before .if1 .taken) _ (c .before .before .before .before .loop-test .taken) (c .if2 .left)))
 
 returns-2 : tie.Need-returns-2 Inv-loop μ-loop
 returns-2 c =

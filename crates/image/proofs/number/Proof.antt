@@ -22,7 +22,13 @@ returns c = rw (image-number, ← c .before .head-number .ensures, then-stop _ (
 
 returns-2 : tie.Need-returns-2
 returns-2 c =
-    rw (after-head (c .before .before .before .before), ← c .before .before .program .ensures, ← c .before .before .before .slots-part .ensures, ← c .before .slots-number .ensures, then-stop _ (c .if2 .taken))
+    rw (
+      after-head (c .before .before .before .before),
+      ← c .before .before .program .ensures,
+      ← c .before .before .before .slots-part .ensures,
+      ← c .before .slots-number .ensures,
+      then-stop _ (c .if2 .taken),
+    )
 
 returns-3 : tie.Need-returns-3
 returns-3 c = rw (after-slots (c .before .before), ← c .before .tail-number .ensures, then-stop _ (c .if3 .taken))

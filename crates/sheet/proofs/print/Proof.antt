@@ -69,7 +69,8 @@ put-refusal-requires-3 c κs =
 returns-3 : tie.Need-returns-3
 returns-3 c =
     let w = c .before .before in
-    let law = printed-accepted (getD (input w) 0 0) (drop 1 (input w)) (output w) (bytes w) (omega (arith, room w)) (sym (ap (λ (a : Answer). a .number) (told w)) ∙ c .if3 .taken) in
+    let number = sym (ap (λ (a : Answer). a .number) (told w)) ∙ c .if3 .taken in
+    let law = printed-accepted (getD (input w) 0 0) (drop 1 (input w)) (output w) (bytes w) (omega (arith, room w)) number in
     let long = ap (λ (a : Answer). a .length) (told w) ∙ law .0 in
     rw (parts w) (long, omega (arith, long, law .2), after w ∙ law .1)
 

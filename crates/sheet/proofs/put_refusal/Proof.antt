@@ -25,6 +25,11 @@ front c = let s = c .before .before .before .before in front-copied word (others
 part : tie.Need-sub-put-line-rest
 part c = part-inside (front (c .before .before))
 
+add-result : tie.Need-add-result
+add-result c =
+    let copied = c .before .before .before .before .before .before .before in
+    omega (arith, both-fit (front copied) (c .before .before .put-line-rest .ensures), copied .before .before .before .before .good .0 .0)
+
 returns : tie.Need-returns
 unfolding refusalLine
 returns c = both-written (front (c .before .before .before .before .before .before .before)) (c .before .before .put-line-rest .ensures)
@@ -40,6 +45,6 @@ put-refusal-spec =
     (λ c. search needs)
     (λ c. search needs)
     (λ c κs. part-room (front (c .before .before .before .before)))
-    (λ c. omega (arith, both-fit (front (c .before .before .before .before .before .before .before)) (c .before .before .put-line-rest .ensures), c .before .before .before .before .before .before .before .before .before .before .before .good .0 .0))
+    add-result
     (λ c. search needs)
     returns)

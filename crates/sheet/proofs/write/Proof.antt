@@ -25,7 +25,8 @@ returns c =
 accepted : (c : tie.Then2) → imageNumber (now (c .before .before .before .before .before .before .args .image)) ≡ 0
 accepted c = sym (c .before .load .ensures .0) ∙ c .if2 .taken
 
-same : (c : tie.Then2) → let a = c .before .before .before .before .before .before .args in shownSheet (a .observer) (c .before .load .last .0) ≡ sheetBytes (a .observer) (now (a .image))
+same : (c : tie.Then2) → let a = c .before .before .before .before .before .before .args in
+    shownSheet (a .observer) (c .before .load .last .0) ≡ sheetBytes (a .observer) (now (a .image))
 same c =
     let a = c .before .before .before .before .before .before .args in
     sheet-shown (a .observer) (c .before .load .last .0) (stateOf (now (a .image))) (c .before .load .ensures .1 ∙ loaded-accepted (now (a .image)) _ (accepted c))

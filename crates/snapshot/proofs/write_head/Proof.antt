@@ -19,10 +19,12 @@ returns c =
     let out = now (s .args .out) in
     let room : 3 + length program + 1 ≤ length out = s .pre in
     let size = encodeNumber 2 (length program) in
-    let version = c .before .before .before .before .before .before .before .before .before .before .before .before .before .before .put-byte .ensures ∙ written-fits (1 ∷ []) out (omega arith) in
-    let sized = lent-fits (1 ∷ []) size out 1 refl (omega arith) version (c .before .before .before .before .before .before .before .before .before .before .encode-u16 .ensures) in
+    let e = c .before .before .before .before .before .before .before .before .before .before in
+    let version = e .before .before .before .before .put-byte .ensures ∙ written-fits (1 ∷ []) out (omega arith) in
+    let sized = lent-fits (1 ∷ []) size out 1 refl (omega arith) version (e .encode-u16 .ensures) in
     let copied = lent-fits (1 ∷ size) program out 3 refl (omega arith) sized (c .before .before .before .before .before .before .copy .ensures) in
-    lent-fits (1 ∷ size ++ program) (s .args .turn ∷ []) out (3 + length program) (omega arith) (omega (arith, length-append program (s .args .turn ∷ []))) copied (c .before .before .put-byte2 .ensures)
+    let fits = length-append program (s .args .turn ∷ []) in
+    lent-fits (1 ∷ size ++ program) (s .args .turn ∷ []) out (3 + length program) (omega arith) (omega (arith, fits)) copied (c .before .before .put-byte2 .ensures)
 
 pub write-head-spec : {M : Type 1} → statement M
 write-head-spec =

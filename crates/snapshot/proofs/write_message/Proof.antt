@@ -41,7 +41,11 @@ returns-2 c =
 same-length : tie.Need-same-length
 same-length c =
     let p = c .before .before .before in
-    let m : Message = record { label = p .before .before .before .before .before .message-label .result; sender = p .before .before .message-sender .result; value = p .before .message-value .result } in
+    let m : Message = record {
+      label = p .before .before .before .before .before .message-label .result;
+      sender = p .before .before .message-sender .result;
+      value = p .before .message-value .result;
+    } in
     ap length (c .before .before .put-message .ensures)
     ∙ length-overwrite (messageBytes m) (now (p .before .before .before .before .before .before .before .args .out)) (room (p .before .before .before))
 
