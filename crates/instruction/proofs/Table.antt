@@ -40,8 +40,7 @@ Written r = (a b c : ℕ) → encode (r .form a b c) ≡ r .code ∷ shown (r .a
 
 written : Every Written table
 written =
-    (λ a b c. refl, (λ a b c. refl, (λ a b c. refl, (λ a b c. refl, (λ a b c. refl, (λ a b c. refl, (λ a b c. refl,
-    (λ a b c. refl, (λ a b c. refl, (λ a b c. refl, (λ a b c. refl, (λ a b c. refl, (λ a b c. refl, tt)))))))))))))
+    (λ a b c. refl, (λ a b c. refl, (λ a b c. refl, (λ a b c. refl, (λ a b c. refl, (λ a b c. refl, (λ a b c. refl, (λ a b c. refl, (λ a b c. refl, (λ a b c. refl, (λ a b c. refl, (λ a b c. refl, (λ a b c. refl, tt)))))))))))))
 
 row-back : (r : Row) → Written r → (n a b c : ℕ) (t : Bool) → (admits (r .a) n a && admits (r .b) n b && admits (r .c) n c) ≡ t
     → (i : Instruction) → legalIf t (r .form a b c) ≡ Legal i → encode i ≡ r .code ∷ a ∷ b ∷ c ∷ []

@@ -26,7 +26,7 @@ returns c =
     let room : length (encodeItems spaced numbers) + 1 ≤ length (now (s .args .out)) = omega (arith, length-line numbers, s .pre) in (
       omega (arith, length-line numbers, wrote .ensures .0),
       rw (line-parts numbers)
-      (stores-behind (encodeItems spaced numbers) (10 ∷ []) (now (s .args .out)) (wrote .last .0) (wrote .result) (sym (wrote .ensures .0)) room (wrote .ensures .1)),
+          (stores-behind (encodeItems spaced numbers) (10 ∷ []) (now (s .args .out)) (wrote .last .0) (wrote .result) (sym (wrote .ensures .0)) room (wrote .ensures .1)),
     )
 
 pub put-line-rest-spec : {M : Type 1} → statement M
