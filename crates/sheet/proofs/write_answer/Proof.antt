@@ -3,6 +3,7 @@ use borrow.Author.Needs.{needs}
 use Prim.Native.Nat.{ℕ}
 use mathlib.Core.Path.{_≡_, sym, ap, _∙_}
 use mathlib.Core.List.{List}
+use native.Mathlib.Omega.{arith}
 use denote.Ref.{now}
 use lib.ListN.{length, take}
 use Rattle.wire.specs.Output.{written}
@@ -27,14 +28,14 @@ returns c =
     let p = c .before .before .before .before .before .before .before in
     let a = p .before .before .before .args in
     let after = c .before .before .before .copy .ensures ∙ ap (λ (w : List ℕ). written w (now (a .out))) (front p) in
-    (told-fits (text p) (now (a .out)) 0 (p .put-sheet .ensures .0) after (c .if1 .taken), after)
+    (told-fits (text p) (now (a .out)) 0 (p .put-sheet .ensures .0) after (omega arith), after)
 
 returns-2 : tie.Need-returns-2
 returns-2 c =
     let p = c .before .before .before .before .before .before .before .before in
     let a = p .before .before .before .args in
     let after = c .before .before .before .before .copy .ensures ∙ ap (λ (w : List ℕ). written w (now (a .out))) (front p) in
-    (told-13 (text p) (now (a .out)) 0 (p .put-sheet .ensures .0) after (c .before .if1 .left) (c .refused .ensures), after)
+    (told-13 (text p) (now (a .out)) 0 (p .put-sheet .ensures .0) after (omega arith) (c .refused .ensures), after)
 
 pub write-answer-spec : {M : Type 1} → statement M
 write-answer-spec =
