@@ -49,6 +49,9 @@ front c = record { size = c .put-decimal .ensures .0; front = c .put-decimal .en
 part : tie.Need-sub-put-line-rest
 part c = part-inside (front (c .before .before))
 
+put-line-rest-requires : tie.Need-put-line-rest-requires
+put-line-rest-requires c κs = part-room (front (c .before .before .before .before))
+
 returns : tie.Need-returns
 returns c =
     let number = c .before .before .before .before .before .before .before in
@@ -72,7 +75,7 @@ put-task-line-spec =
     part
     (λ c. omega arith)
     (λ c. omega arith)
-    (λ c κs. part-room (front (c .before .before .before .before)))
+    put-line-rest-requires
     (λ c.
     let number = c .before .before .before .before .before .before .before in
     omega (arith, both-fit (front number) (c .before .before .put-line-rest .ensures), start (number .before .before) .good .0 .0))
