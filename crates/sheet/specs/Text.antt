@@ -12,7 +12,7 @@ use Rattle.wire.specs.Items.{encodeItems}
 unfoldable pub ascii : String → List ℕ
 ascii s = tabulate (len s) (λ i. code (charAt s i))
 
--- at most k digits of x: the last behind those of x / 10, of which a number below 10 has none
+-- at most k digits of x, 48 being 0 in ASCII: the last behind those of x / 10, of which a number below 10 has none
 unfoldable pub digits : ℕ → ℕ → List ℕ
 digits zero x = []
 digits (suc k) x = cond (ltb x 10) [] (digits k (x / 10)) ++ ((48 + x % 10) ∷ [])

@@ -25,11 +25,11 @@ fn put_decimal(out: &mut [u8], x: u32) -> usize
     ensures { λ r. ⌜ (r ≡ length (decimal x)) × (now (out .exit) ≡ overwrite (decimal x) (now (out .entry))) ⌝ }
 {
     if x < 10 {
-        out[0] = 48 + (x % 10) as u8;
+        out[0] = b'0' + (x % 10) as u8;
         1
     } else {
         let n = put_decimal(out, x / 10);
-        out[n] = 48 + (x % 10) as u8;
+        out[n] = b'0' + (x % 10) as u8;
         n + 1
     }
 }
