@@ -55,8 +55,8 @@ test: ## the whole gate: every test, then every proof from nothing and every mus
 	@$(MAKE) link-test rust-test examples
 	@$(prove) ci
 
-link-test: $(archive) ## link the archive into C and Rust programs, run them, and measure the stack of a call
-	@tests/link/run $(archive)
+link-test: $(archive) ## link the archive into C programs, run them, and measure the stack of a call
+	@tests/link/run
 
 rust-test: all ## test the Rust packages, and compare the monitor and slotsheet with the reference interpreter
 	@$(cargo) test $(cargo_words) -- --quiet
