@@ -3,10 +3,10 @@
 use crate::calls::Call;
 use crate::compare::Comparison;
 use crate::damage::{self, FAULTS};
-use crate::image::Image;
 use crate::images;
 use crate::report::Mismatch;
 use crate::rng::Rng;
+use layout::Image;
 use rithennaw::{IMAGE_MAX, TURNS_MAX};
 
 type Outcome = Result<(), Mismatch>;

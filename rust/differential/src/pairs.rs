@@ -1,9 +1,9 @@
 //! Pairs of accepted images that show an observer the same and differ in hidden tasks and hidden mail.
 
-use crate::image::{Image, SLOTS};
 use crate::images::{self, LABELS};
 use crate::programs;
 use crate::rng::Rng;
+use layout::{Image, SLOTS};
 
 /// Whether each bit of `label` is also in `observer`.
 pub fn flows(label: u8, observer: u8) -> bool {

@@ -6,10 +6,8 @@ use crate::pairs::{self, flows};
 use crate::report::{hex, Mismatch};
 use crate::rng::Rng;
 use crate::secrecy_report::{SecrecyTally, Seen, OBSERVERS};
+use layout::TASK_LENGTH;
 use rithennaw::{IMAGE_MAX, TURNS_MAX};
-
-/// Bytes of a record that change only where its task runs: those ahead of the mail.
-const AHEAD_OF_MAIL: usize = 37;
 
 /// A turn call of a list.
 #[derive(Debug, Clone, Copy, PartialEq, Eq)]
@@ -148,7 +146,7 @@ impl Trial<'_> {
     fn ran(&self, start: &[u8], end: &[u8], hidden: bool) -> bool {
         let task = |image: &[u8], slot| {
             let part = (self.implementation.record)(image, slot);
-            image[part].iter().copied().take(AHEAD_OF_MAIL).collect::<Vec<u8>>()
+            image[part].iter().copied().take(TASK_LENGTH).collect::<Vec<u8>>()
         };
         (0..16).any(|slot| match task(start, slot).as_slice() {
             [_, label, ..] if flows(*label, self.observer) != hidden => task(start, slot) != task(end, slot),
