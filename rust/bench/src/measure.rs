@@ -66,37 +66,38 @@ mod tests {
 
     const ONE_BYTE: Answer = Answer { number: 0, length: 1, busy: 0 };
 
-    /// What is wrong where the monitor answers so, and the reference that it wrote one byte.
-    fn fault(monitor: fn(Call, &[u8], &mut [u8]) -> Answer) -> Option<String> {
-        fault_of_both([monitor, |_, _, _| ONE_BYTE])
+    fn answering(call: fn(Call, &[u8], &mut [u8]) -> Answer) -> Implementation {
+        Implementation { call, ..REFERENCE }
     }
 
-    fn fault_of_both(both: [fn(Call, &[u8], &mut [u8]) -> Answer; 2]) -> Option<String> {
-        let both = both.map(|call| Implementation { call, ..REFERENCE });
-        measure(both, Call::Rewrite, &[], 1).err()
+    fn is_measured(monitor: Implementation, reference: Implementation) -> bool {
+        measure([monitor, reference], Call::Rewrite, &[], 1).is_ok()
     }
 
     #[test]
     fn equal_answers_are_measured() {
-        assert_eq!(fault(|_, _, _| ONE_BYTE), None);
+        let one_byte = answering(|_, _, _| ONE_BYTE);
+        assert!(is_measured(one_byte, one_byte));
     }
 
     #[test]
     fn a_difference_in_any_byte_of_the_output_is_a_fault() {
-        let last_byte_too = |_, _: &[u8], out: &mut [u8]| {
+        let last_byte_too = answering(|_, _, out| {
             *out.last_mut().unwrap() = 1;
             ONE_BYTE
-        };
-        assert!(fault(last_byte_too).is_some());
+        });
+        assert!(!is_measured(last_byte_too, answering(|_, _, _| ONE_BYTE)));
     }
 
     #[test]
     fn a_difference_in_the_busy_count_is_a_fault() {
-        assert!(fault(|_, _, _| Answer { busy: 1, ..ONE_BYTE }).is_some());
+        let busy = answering(|_, _, _| Answer { busy: 1, ..ONE_BYTE });
+        assert!(!is_measured(busy, answering(|_, _, _| ONE_BYTE)));
     }
 
     #[test]
     fn a_call_that_both_refuse_is_a_fault() {
-        assert!(fault_of_both([|_, _, _| Answer { number: 3, length: 0, busy: 0 }; 2]).is_some());
+        let refused = answering(|_, _, _| Answer { number: 3, length: 0, busy: 0 });
+        assert!(!is_measured(refused, refused));
     }
 }

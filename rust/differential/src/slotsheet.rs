@@ -70,9 +70,10 @@ fn of_limits() -> Vec<Vec<u8>> {
     inputs
 }
 
-/// What the program prints for that input.
+/// What the program prints for that input; a failure of its own is an error.
 fn print(program: &OsStr, input: &[u8]) -> io::Result<Vec<u8>> {
-    let mut child = Command::new(program).stdin(Stdio::piped()).stdout(Stdio::piped()).spawn()?;
+    let [stdin, stdout, stderr] = [(); 3].map(|()| Stdio::piped());
+    let mut child = Command::new(program).stdin(stdin).stdout(stdout).stderr(stderr).spawn()?;
     if let Some(mut stdin) = child.stdin.take() {
         // A program that has seen enough may close its input.
         stdin
@@ -80,7 +81,10 @@ fn print(program: &OsStr, input: &[u8]) -> io::Result<Vec<u8>> {
             .or_else(|error| if error.kind() == io::ErrorKind::BrokenPipe { Ok(()) } else { Err(error) })?;
     }
     let output = child.wait_with_output()?;
-    output.status.code().map(|_| output.stdout).ok_or_else(|| io::Error::other(format!("ended by {}", output.status)))
+    if output.status.success() && output.stderr.is_empty() {
+        return Ok(output.stdout);
+    }
+    Err(io::Error::other(format!("{}, and it says: {}", output.status, String::from_utf8_lossy(&output.stderr))))
 }
 
 impl SlotsheetTally {
@@ -95,6 +99,6 @@ impl SlotsheetTally {
 impl fmt::Display for SlotsheetTally {
     fn fmt(&self, f: &mut fmt::Formatter<'_>) -> fmt::Result {
         let total: u64 = self.0.iter().sum();
-        write!(f, "slotsheet: {total} inputs compared, {} sheets", self.0[0])
+        write!(f, "slotsheet: sheets {}, refusals {} in {total} inputs", self.0[0], total - self.0[0])
     }
 }
