@@ -7,6 +7,7 @@ use differential::calls::BOTH;
 use differential::compare::Comparison;
 use differential::report::Mismatch;
 use differential::secrecy_report::SecrecyTally;
+use differential::slotsheet::SlotsheetTally;
 use differential::{cases, secrecy, slotsheet};
 use std::env;
 use std::ffi::OsString;
@@ -43,16 +44,14 @@ fn options(mut arguments: impl Iterator<Item = OsString>) -> Option<Options> {
 struct Mismatches(u64);
 
 impl Mismatches {
-    /// What was compared, if it agreed; else counts the mismatch.
-    fn note<T>(&mut self, outcome: Result<T, Mismatch>) -> Option<T> {
-        outcome
-            .inspect_err(|mismatch| {
-                self.0 += 1;
-                if self.0 <= SHOWN {
-                    eprintln!("differential: {mismatch}");
-                }
-            })
-            .ok()
+    /// Counts the mismatch, if there is one.
+    fn note(&mut self, outcome: Result<(), Mismatch>) {
+        if let Err(mismatch) = outcome {
+            self.0 += 1;
+            if self.0 <= SHOWN {
+                eprintln!("differential: {mismatch}");
+            }
+        }
     }
 }
 
@@ -65,7 +64,10 @@ fn run(options: &Options) -> bool {
         mismatches.note(cases::run(&mut comparison, seed));
         mismatches.note(secrecy::run(&mut secrecy_tally, &BOTH, seed));
     }
-    let slotsheet_tally = mismatches.note(slotsheet::run(&options.slotsheet)).unwrap_or_default();
+    let mut slotsheet_tally = SlotsheetTally::default();
+    for input in slotsheet::inputs() {
+        mismatches.note(slotsheet::run(&mut slotsheet_tally, &options.slotsheet, &input));
+    }
     let tally = comparison.tally;
     println!("{tally}\n{secrecy_tally}\n{slotsheet_tally}");
     let missing = [tally.shortfalls(), secrecy_tally.shortfalls(), slotsheet_tally.shortfalls()].concat();

@@ -1,5 +1,6 @@
 //! The program: what it prints is counted, and a slotsheet that prints something else is a mismatch.
 
+use differential::slotsheet;
 use std::process::{Command, Output};
 
 fn differential(arguments: &[&str]) -> Output {
@@ -18,12 +19,14 @@ fn calls(printed: &str) -> u64 {
 
 #[test]
 fn the_last_line_counts_calls_and_mismatches() {
-    // The program `true` prints nothing, which slotsheet never does.
+    // The program `true` prints nothing, which is wrong for every input of slotsheet.
+    let mismatches = slotsheet::inputs().count();
+    assert!(mismatches > 300);
     let output = differential(&["--first", "7", "--seeds", "20", "--slotsheet", "true"]);
     let [printed, said] = [output.stdout, output.stderr].map(|text| String::from_utf8(text).unwrap());
     let calls = calls(&printed);
     assert!(calls > 1_000, "{printed}");
-    assert_eq!(printed.lines().last(), Some(format!("{calls} calls compared, 1 mismatches").as_str()));
+    assert_eq!(printed.lines().last(), Some(format!("{calls} calls compared, {mismatches} mismatches").as_str()));
     assert!(said.starts_with("differential: slotsheet, input "), "{said}");
     assert!(said.contains("\ndifferential: fewer than 200000 calls\n"), "{said}");
     assert!(!output.status.success());
