@@ -64,7 +64,7 @@ rust-test: all ## test the Rust packages, and compare the monitor and slotsheet 
 	@$(cargo) test $(cargo_words) -- --quiet
 	@$(differential)
 
-# Seeds that rust-test does not take.
+# Other seeds than those of rust-test, which are the first 6,000.
 differential: all ## the same comparison for a long run; SEEDS says how many seeds
 	@$(differential) --first 10000 --seeds $(SEEDS)
 
