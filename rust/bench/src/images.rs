@@ -14,7 +14,7 @@ pub struct Case {
 }
 
 /// The numbers of slots and of labels.
-pub const SLOTS: u8 = 16;
+pub const SLOTS: u8 = layout::SLOTS as u8;
 const LABELS: u8 = 16;
 
 /// Each round sends two messages to the slot in register 1 and receives at most two, by take and by poll.
