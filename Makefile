@@ -20,8 +20,8 @@ slotsheet := target/bin/slotsheet
 sources := crates.txt $(shell find crates -name must-fail -prune -o -print)
 # rt, with a line for each crate and each edit that is done.
 prove := tools/progress $(RT)
-# No package of another's is used, so cargo needs no network.
-cargo := $(CARGO) --offline --locked
+# No package of another's is used, so cargo needs no network. Of make's -j it would only say that it cannot share it.
+cargo := MAKEFLAGS= MFLAGS= $(CARGO) --offline --locked
 cargo_words := --release --manifest-path rust/Cargo.toml
 differential := $(cargo) run $(cargo_words) --package differential -- --slotsheet $(slotsheet)
 prefix := $(abspath $(PREFIX))

@@ -33,11 +33,11 @@ fn turn(image: &mut Image<'_>) -> bool {
     let Some(task) = image.tasks[slot.index()].as_mut().filter(|task| task.is_live()) else {
         return false;
     };
-    let outcome = match image.program.get(usize::from(task.place)) {
+    let effect = match image.program.get(usize::from(task.place)) {
         Some(&instruction) => task.execute(instruction, slot),
         None => Effect::Stop(Kind::RanOff),
     };
-    match outcome {
+    match effect {
         Effect::Next => task.place += 1,
         Effect::Jump(place) => task.place = place,
         Effect::Wait => {}
