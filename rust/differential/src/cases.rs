@@ -92,7 +92,7 @@ fn outputs(comparison: &mut Comparison, rng: &mut Rng, call: Call, image: &[u8],
     Ok(())
 }
 
-/// The image with each fault in turn, with two faults, with random changes, and random bytes.
+/// The image with a fault, each in its turn, alone and with one or two others; with random changes; and random bytes.
 fn damaged(comparison: &mut Comparison, rng: &mut Rng, image: &Image, seed: u64) -> Outcome {
     let fault = &FAULTS[(seed % FAULTS.len() as u64) as usize];
     for faults in 1..=3 {
