@@ -8,6 +8,8 @@ SEEDS ?= 300000
 VERSION := $(shell cat VERSION)
 
 export RT
+# The gate tests the archive that is built here, whatever other one a user's Rust programs link.
+unexport RITHENNAW_LIB_DIR
 # cargo and rustc are often there for one user only, in a folder that not every shell looks into.
 export PATH := $(PATH):$(or $(CARGO_HOME),$(HOME)/.cargo)/bin
 MAKEFLAGS += --no-print-directory
@@ -18,8 +20,8 @@ slotsheet := target/bin/slotsheet
 sources := crates.txt $(shell find crates -name must-fail -prune -o -print)
 # rt, with a line for each crate and each edit that is done.
 prove := tools/progress $(RT)
-# No package of another's is used, so cargo needs no network.
-cargo := $(CARGO) --offline --locked
+# No package of another's is used, so cargo needs no network. Of make's -j it would only say that it cannot share it.
+cargo := MAKEFLAGS= MFLAGS= $(CARGO) --offline --locked
 cargo_words := --release --manifest-path rust/Cargo.toml
 differential := $(cargo) run $(cargo_words) --package differential -- --slotsheet $(slotsheet)
 prefix := $(abspath $(PREFIX))
@@ -55,14 +57,14 @@ test: ## the whole gate: every test, then every proof from nothing and every mus
 	@$(MAKE) link-test rust-test examples
 	@$(prove) ci
 
-link-test: $(archive) ## link the archive into C and Rust programs, run them, and measure the stack of a call
-	@tests/link/run $(archive)
+link-test: $(archive) ## link the archive into C programs, run them, and measure the stack of a call
+	@tests/link/run
 
 rust-test: all ## test the Rust packages, and compare the monitor and slotsheet with the reference interpreter
 	@$(cargo) test $(cargo_words) -- --quiet
 	@$(differential)
 
-# Other seeds than those of rust-test, which are the first 10,000.
+# Other seeds than those of rust-test, which are the first 6,000.
 differential: all ## the same comparison for a long run; SEEDS says how many seeds
 	@$(differential) --first 10000 --seeds $(SEEDS)
 
@@ -76,18 +78,21 @@ demo: $(archive) ## show what each observer sees of a sample day
 bench: $(archive) ## measure the time of a turn
 	@$(cargo) run $(cargo_words) --package bench
 
+# Where a file is installed, quoted: DESTDIR may have blanks. PREFIX may not, as flags of the pkg-config file are words.
+below = $(if $(filter 1,$(words $(prefix))),'$(DESTDIR)$(prefix)/$(1)',$(error PREFIX is not one word: $(PREFIX)))
+
 install: all ## install header, archive, pkg-config file and slotsheet below PREFIX (/usr/local), staged below DESTDIR
-	install -d $(addprefix $(DESTDIR)$(prefix)/,$(sort $(dir $(installed))))
-	install -m 644 include/rithennaw.h $(DESTDIR)$(prefix)/include/rithennaw.h
-	install -m 644 $(archive) $(DESTDIR)$(prefix)/lib/librithennaw.a
-	sed -e 's|@PREFIX@|$(prefix)|' -e 's|@VERSION@|$(VERSION)|' rithennaw.pc.in >$(DESTDIR)$(prefix)/lib/pkgconfig/rithennaw.pc
-	chmod 644 $(DESTDIR)$(prefix)/lib/pkgconfig/rithennaw.pc
-	install -m 755 $(slotsheet) $(DESTDIR)$(prefix)/bin/slotsheet
+	install -d $(foreach folder,$(sort $(dir $(installed))),$(call below,$(folder)))
+	install -m 644 include/rithennaw.h $(call below,include/rithennaw.h)
+	install -m 644 $(archive) $(call below,lib/librithennaw.a)
+	sed -e 's|@PREFIX@|$(prefix)|' -e 's|@VERSION@|$(VERSION)|' rithennaw.pc.in >$(call below,lib/pkgconfig/rithennaw.pc)
+	chmod 644 $(call below,lib/pkgconfig/rithennaw.pc)
+	install -m 755 $(slotsheet) $(call below,bin/slotsheet)
 
 uninstall: ## remove what install put there
-	rm -f $(addprefix $(DESTDIR)$(prefix)/,$(installed))
+	rm -f $(foreach file,$(installed),$(call below,$(file)))
 
-fmt: ## lay every source out
+fmt: ## lay out every source that is proved
 	@$(RT) fmt
 
 clean: ## remove what was built

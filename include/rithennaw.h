@@ -1,13 +1,13 @@
 /*
- * rithennaw.h: the C interface of the monitor. ISO C99; link target/staticlib/librithennaw.a (`make lib`).
+ * rithennaw.h: the C interface of the monitor. ISO C99; link librithennaw.a, which `make lib` builds.
  *
  * Each call takes an image, the bytes of all tasks, whatever they are: it refuses what it cannot take, so the caller
  * checks nothing beforehand. The layout of an image and the meaning of its tasks are the scope document's (01).
  *
- * Numbers. All calls but `rithennaw_record` return 0 (RITHENNAW_ACCEPTED), or the number of
- * the first rule that is broken, in the order: 1 or 2, then the image from front to back, then 11, 12, 13. A refused call
- * writes no byte of the output, and sets *length, and *busy where there is one, to 0. An accepted one writes *length bytes
- * at the front of the output and leaves the bytes behind them as they were.
+ * Numbers. All calls but `rithennaw_record` return 0 (RITHENNAW_ACCEPTED), or the number of the first rule that is broken,
+ * in the order: 1 or 2, then the image from front to back, then 11, 12, 13. A refused call writes no byte of the output,
+ * and sets *length, and *busy where there is one, to 0. An accepted one writes *length bytes at the front of the output and
+ * leaves the bytes behind them as they were.
  *
  * Pointers. All must be valid for the call: `image` for reading image_len bytes that have been set, `out` for writing
  * out_len bytes, `start`, `length` and `busy` for writing one number at its alignment. None may be null, also where the
@@ -15,11 +15,11 @@
  * beforehand does not matter. The image, the output and the numbers pointed to must not overlap, one with another.
  *
  * Threads and memory. There are no globals, nothing is allocated and nothing is kept between calls. Any number of threads
- * may call at a time, also on one image, as long as no thread writes what another call is lent, or reads what it may write. Every call returns: none
- * waits, and none fails but by its number. A call takes less than RITHENNAW_STACK bytes of the caller's stack, what the
- * loader takes to bind memset at the first call included. That is measured on x86-64 and not proved; `make link-test`
- * prints the figure of each call and fails where one is not less. Of the C library the archive uses memset, memcpy and
- * memmove at most.
+ * may call at a time, also on one image, as long as no thread writes what another call is lent, or reads what it may write.
+ * Every call returns: none waits, and none fails but by its number. A call takes less than RITHENNAW_STACK bytes of the
+ * caller's stack, what the loader takes to bind memset and memcpy at a first call included. That is measured on x86-64 and
+ * not proved; `make link-test` prints the figure of each call and fails where one is not less. Of the C library the archive
+ * uses memset, memcpy and memmove at most.
  */
 #ifndef RITHENNAW_H
 #define RITHENNAW_H

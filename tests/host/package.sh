@@ -46,10 +46,16 @@ if command -v pkg-config >"$work/found"; then
 fi
 same_text 'the flags to build with' "$flags" "$should_flags"
 
-# A staged install has its files below DESTDIR and names the prefix alone; uninstall leaves no file.
-package install DESTDIR="$work/stage" PREFIX=/opt/rithennaw
-same_text 'the files of a staged install' "$(files "$work/stage/opt/rithennaw")" "$package_files"
-same_text 'the flags of a staged install' "$(pc_field Libs "$work/stage/opt/rithennaw/lib/pkgconfig/rithennaw.pc")" \
+# A staged install has its files below DESTDIR, which may have a blank, and names the prefix alone; uninstall leaves no file.
+stage="$work/the stage"
+package install DESTDIR="$stage" PREFIX=/opt/rithennaw
+same_text 'the files of a staged install' "$(files "$stage/opt/rithennaw")" "$package_files"
+same_text 'the flags of a staged install' "$(pc_field Libs "$stage/opt/rithennaw/lib/pkgconfig/rithennaw.pc")" \
     '-L/opt/rithennaw/lib -lrithennaw'
-package uninstall DESTDIR="$work/stage" PREFIX=/opt/rithennaw
-same_text 'the files after uninstall' "$(files "$work/stage")" ''
+package uninstall DESTDIR="$stage" PREFIX=/opt/rithennaw
+same_text 'the files after uninstall' "$(files "$stage")" ''
+
+# A prefix of two words is refused, so that uninstall removes nothing that one of them names.
+: >"$work/kept"
+(package uninstall DESTDIR= PREFIX="$work/kept more") >"$work/refused" 2>&1 || echo refused >>"$work/refused"
+same_text 'a prefix of two words' "$(tail -n 1 "$work/refused") $(ls "$work/kept")" "refused $work/kept"

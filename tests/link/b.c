@@ -1,6 +1,6 @@
 /*
- * The archive linked into a C program: the scope document's image B, and its examples P2, P3 and P5 through the header,
- * every byte compared; a record's part; the refusals 1, 2, 3 and 13, which leave the output as it was.
+ * The archive linked into a C program: the scope document's image B, its examples P2, P3 and P5 and the sheet of P2 through
+ * the header, every byte compared; a record's part; the refusals 1, 2, 3 and 13, which leave the output as it was.
  */
 #include <stdint.h>
 #include <stdio.h>
@@ -128,13 +128,12 @@ static void fill(void)
     busy = 77;
 }
 
-/* The output holds `should` and behind it the pattern, and its length was told. */
-static void expect_written(const char *call, const struct image *should)
+/* The output begins with `should` and holds the pattern behind it. */
+static void expect_output(const char *call, const uint8_t *should, size_t should_length)
 {
     size_t i;
-    expect_number(length, should->length, call, "the length");
     for (i = 0; i < OUT_LENGTH; i++) {
-        unsigned byte = i < should->length ? should->bytes[i] : PATTERN;
+        unsigned byte = i < should_length ? should[i] : PATTERN;
         if (out[i] != byte) {
             expect(0, call);
             fprintf(stderr, "b.c: %s: byte %zu of the output is %u, not %u\n", call, i, (unsigned)out[i], byte);
@@ -144,35 +143,28 @@ static void expect_written(const char *call, const struct image *should)
     expect(1, call);
 }
 
-static void expect_untouched(const char *call)
+/* The call told this number, and wrote `should` and told its length; no byte and 0 where it is refused. */
+static void expect_answer(const char *call, unsigned is, unsigned number, const struct image *should)
 {
     static const struct image none;
-    expect_written(call, &none);
+    const struct image *answer = number == RITHENNAW_ACCEPTED ? should : &none;
+    expect_number(is, number, call, "the number");
+    expect_number(length, answer->length, call, "the length");
+    expect_output(call, answer->bytes, answer->length);
 }
 
-static void rewrites(const char *call, const uint8_t *image, size_t image_len, size_t room, unsigned number,
+static void rewrites(const char *call, const struct image *image, size_t room, unsigned number,
                      const struct image *should)
 {
     fill();
-    expect_number(rithennaw_rewrite(image, image_len, out, room, &length), number, call, "the number");
-    if (number == RITHENNAW_ACCEPTED) {
-        expect_written(call, should);
-    } else {
-        expect_untouched(call);
-    }
+    expect_answer(call, rithennaw_rewrite(image->bytes, image->length, out, room, &length), number, should);
 }
 
 static void turns(const char *call, const struct image *image, uint64_t count, size_t room, unsigned number,
                   const struct image *should, uint64_t should_busy)
 {
     fill();
-    expect_number(rithennaw_turns(image->bytes, image->length, count, out, room, &length, &busy), number, call,
-                  "the number");
-    if (number == RITHENNAW_ACCEPTED) {
-        expect_written(call, should);
-    } else {
-        expect_untouched(call);
-    }
+    expect_answer(call, rithennaw_turns(image->bytes, image->length, count, out, room, &length, &busy), number, should);
     expect_number(busy, should_busy, call, "the busy count");
 }
 
@@ -180,13 +172,18 @@ static void views(const char *call, const struct image *image, uint32_t observer
                   const struct image *should)
 {
     fill();
-    expect_number(rithennaw_view(image->bytes, image->length, observer, out, room, &length), number, call,
-                  "the number");
-    if (number == RITHENNAW_ACCEPTED) {
-        expect_written(call, should);
-    } else {
-        expect_untouched(call);
-    }
+    expect_answer(call, rithennaw_view(image->bytes, image->length, observer, out, room, &length), number, should);
+}
+
+/* The sheet is `should`, text that ends with a 0 byte, which is no part of the sheet. */
+static void sheets(const char *call, const struct image *image, uint32_t observer, size_t room, unsigned number,
+                   const char *should)
+{
+    struct image text;
+    text.length = strlen(should);
+    memcpy(text.bytes, should, text.length);
+    fill();
+    expect_answer(call, rithennaw_sheet(image->bytes, image->length, observer, out, room, &length), number, &text);
 }
 
 static void record(const char *call, const struct image *image, uint32_t slot, size_t should_start,
@@ -199,12 +196,16 @@ static void record(const char *call, const struct image *image, uint32_t slot, s
     expect_number(length, should_length, call, "the length");
 }
 
-int main(void)
-{
-    static struct image b, p2, p3, ended, p5, p5_after, p5_for_0, cut, empty;
+/* ---- the images of the examples; `cut` is B without its last byte */
 
+static struct image b, p2, p3, ended, p5, p5_after, p5_for_0, cut, empty;
+
+static void make_images(void)
+{
     make_b(&b);
     expect_number(b.length, B_LENGTH, "B", "the length");
+    cut = b;
+    cut.length--;
 
     /* P2: after 1 turn slot 0 is at place 1, and slot 5 has the message. */
     p2 = b;
@@ -234,18 +235,34 @@ int main(void)
     p5_for_0.bytes[SLOT_0_AT + PLACE_AT + 1] = 1;
     p5_after = p5_for_0;
     put_mail_700(&p5_after, 2);
+}
 
+/* ---- each function: accepted calls, then the refusals in the order of their numbers */
+
+static void try_record(void)
+{
     record("record of slot 0 of B", &b, 0, SLOT_0_AT + 2, 37);
     record("record of slot 5 of B", &b, 5, SLOT_5_AT + 2, 37);
     record("record of slot 5 of P2", &p2, 5, SLOT_5_AT + 2, 43);
     record("record of slot 1 of B, which is unused", &b, 1, 0, 0);
     record("record of slot 16 of B", &b, 16, 0, 0);
     record("record of slot 2^32 - 11 of B", &b, 0xfffffff5u, 0, 0);
+    record("record of slot 5 of B cut by a byte", &cut, 5, 0, 0);
+    record("record of slot 0 of no bytes", &empty, 0, 0, 0);
+}
 
-    rewrites("rewrite of B", b.bytes, b.length, OUT_LENGTH, RITHENNAW_ACCEPTED, &b);
-    rewrites("rewrite of B into just enough", b.bytes, b.length, b.length, RITHENNAW_ACCEPTED, &b);
-    rewrites("rewrite of P2", p2.bytes, p2.length, OUT_LENGTH, RITHENNAW_ACCEPTED, &p2);
+static void try_rewrite(void)
+{
+    rewrites("rewrite of B", &b, OUT_LENGTH, RITHENNAW_ACCEPTED, &b);
+    rewrites("rewrite of B into just enough", &b, b.length, RITHENNAW_ACCEPTED, &b);
+    rewrites("rewrite of P2", &p2, OUT_LENGTH, RITHENNAW_ACCEPTED, &p2);
+    rewrites("rewrite of B cut by a byte", &cut, OUT_LENGTH, RITHENNAW_SHORT, NULL);
+    rewrites("rewrite of no bytes", &empty, 0, RITHENNAW_SHORT, NULL);
+    rewrites("rewrite of B into a byte too few", &b, b.length - 1, RITHENNAW_OUTPUT, NULL);
+}
 
+static void try_turns(void)
+{
     turns("B after 0 turns", &b, 0, OUT_LENGTH, RITHENNAW_ACCEPTED, &b, 0);
     turns("B after 1 turn (P2)", &b, 1, OUT_LENGTH, RITHENNAW_ACCEPTED, &p2, 1);
     turns("B after 1 turn into just enough", &b, 1, p2.length, RITHENNAW_ACCEPTED, &p2, 1);
@@ -253,37 +270,53 @@ int main(void)
     turns("B after 1,000,000 turns", &b, RITHENNAW_TURNS_MAX, OUT_LENGTH, RITHENNAW_ACCEPTED, &ended, 4);
     turns("P2 after 5 turns more", &p2, 5, OUT_LENGTH, RITHENNAW_ACCEPTED, &p3, 1);
     turns("P5 after 6 turns", &p5, 6, OUT_LENGTH, RITHENNAW_ACCEPTED, &p5_after, 2);
+    turns("1,000,001 turns", &b, RITHENNAW_TURNS_MAX + 1, OUT_LENGTH, RITHENNAW_TURN_LIMIT, NULL, 0);
+    turns("2^32 turns", &b, (uint64_t)1 << 32, OUT_LENGTH, RITHENNAW_TURN_LIMIT, NULL, 0);
+    turns("1,000,001 turns of no bytes", &empty, RITHENNAW_TURNS_MAX + 1, 0, RITHENNAW_TURN_LIMIT, NULL, 0);
+    turns("turns of B cut by a byte", &cut, 1, OUT_LENGTH, RITHENNAW_SHORT, NULL, 0);
+    turns("turns of no bytes", &empty, 1, 0, RITHENNAW_SHORT, NULL, 0);
+    turns("B after 1 turn into a byte too few", &b, 1, p2.length - 1, RITHENNAW_OUTPUT, NULL, 0);
+}
 
+static void try_view(void)
+{
     views("view of P5 for 0", &p5_after, 0, OUT_LENGTH, RITHENNAW_ACCEPTED, &p5_for_0);
     views("view of P5 for 0 into just enough", &p5_after, 0, p5_for_0.length, RITHENNAW_ACCEPTED, &p5_for_0);
     views("view of P5 for 2", &p5_after, 2, OUT_LENGTH, RITHENNAW_ACCEPTED, &p5_after);
     views("view of P5 for 15", &p5_after, 15, OUT_LENGTH, RITHENNAW_ACCEPTED, &p5_after);
-
-    /* 1 and 2, ahead of the image. */
     views("view for 16", &b, 16, OUT_LENGTH, RITHENNAW_OBSERVER, NULL);
     views("view for 256", &b, 256, OUT_LENGTH, RITHENNAW_OBSERVER, NULL);
     views("view for 16 of no bytes", &empty, 16, 0, RITHENNAW_OBSERVER, NULL);
-    turns("1,000,001 turns", &b, RITHENNAW_TURNS_MAX + 1, OUT_LENGTH, RITHENNAW_TURN_LIMIT, NULL, 0);
-    turns("2^32 turns", &b, (uint64_t)1 << 32, OUT_LENGTH, RITHENNAW_TURN_LIMIT, NULL, 0);
-    turns("1,000,001 turns of no bytes", &empty, RITHENNAW_TURNS_MAX + 1, 0, RITHENNAW_TURN_LIMIT, NULL, 0);
-
-    /* 3: the image without its last byte, and no bytes. */
-    cut = b;
-    cut.length--;
-    record("record of slot 5 of B cut by a byte", &cut, 5, 0, 0);
-    rewrites("rewrite of B cut by a byte", cut.bytes, cut.length, OUT_LENGTH, RITHENNAW_SHORT, NULL);
-    turns("turns of B cut by a byte", &cut, 1, OUT_LENGTH, RITHENNAW_SHORT, NULL, 0);
     views("view of B cut by a byte", &cut, 0, OUT_LENGTH, RITHENNAW_SHORT, NULL);
-    record("record of slot 0 of no bytes", &empty, 0, 0, 0);
-    rewrites("rewrite of no bytes", empty.bytes, 0, 0, RITHENNAW_SHORT, NULL);
-    turns("turns of no bytes", &empty, 1, 0, RITHENNAW_SHORT, NULL, 0);
     views("view of no bytes", &empty, 0, 0, RITHENNAW_SHORT, NULL);
-
-    /* 13: a byte too few for the answer. */
-    rewrites("rewrite of B into a byte too few", b.bytes, b.length, b.length - 1, RITHENNAW_OUTPUT, NULL);
-    turns("B after 1 turn into a byte too few", &b, 1, p2.length - 1, RITHENNAW_OUTPUT, NULL, 0);
     views("view of P5 for 0 into a byte too few", &p5_after, 0, p5_for_0.length - 1, RITHENNAW_OUTPUT, NULL);
+}
 
+static void try_sheet(void)
+{
+    static const char of_p2[] = "slot kind label spare pc mail\n0 1 0 0 1 0\n5 1 0 0 2 1\n";
+    static const char of_p5_for_0[] = "slot kind label spare pc mail\n0 1 0 0 1 0\n5 1 0 0 2 0\n";
+    const size_t enough = sizeof of_p2 - 1;
+    sheets("sheet of P2 for 0", &p2, 0, OUT_LENGTH, RITHENNAW_ACCEPTED, of_p2);
+    sheets("sheet of P2 for 0 into just enough", &p2, 0, enough, RITHENNAW_ACCEPTED, of_p2);
+    sheets("sheet of P5 for 0", &p5_after, 0, RITHENNAW_SHEET_MAX, RITHENNAW_ACCEPTED, of_p5_for_0);
+    sheets("sheet of P5 for 2", &p5_after, 2, RITHENNAW_SHEET_MAX, RITHENNAW_ACCEPTED, of_p2);
+    sheets("sheet for 16", &p2, 16, OUT_LENGTH, RITHENNAW_OBSERVER, "");
+    sheets("sheet for 256", &p2, 256, OUT_LENGTH, RITHENNAW_OBSERVER, "");
+    sheets("sheet for 16 of no bytes", &empty, 16, 0, RITHENNAW_OBSERVER, "");
+    sheets("sheet of B cut by a byte", &cut, 0, OUT_LENGTH, RITHENNAW_SHORT, "");
+    sheets("sheet of no bytes", &empty, 0, 0, RITHENNAW_SHORT, "");
+    sheets("sheet of P2 for 0 into a byte too few", &p2, 0, enough - 1, RITHENNAW_OUTPUT, "");
+}
+
+int main(void)
+{
+    make_images();
+    try_record();
+    try_rewrite();
+    try_turns();
+    try_view();
+    try_sheet();
     printf("b.c: %u checks, %u failed\n", checks, faults);
     return faults == 0 ? 0 : 1;
 }

@@ -1,7 +1,8 @@
 //! Times a call of the monitor beside the same call of the reference, and compares all that they tell and write.
 
-use crate::calls::{Call, Pair, Told};
 use crate::clock::cpu_time;
+use differential::calls::{Call, Implementation};
+use reference::Answer;
 use rithennaw::IMAGE_MAX;
 use std::hint::black_box;
 use std::time::Duration;
@@ -13,7 +14,7 @@ pub const RUNS: usize = 25;
 pub struct Measured {
     pub monitor: Duration,
     pub reference: Duration,
-    pub told: Told,
+    pub answer: Answer,
     pub written: Vec<u8>,
 }
 
@@ -24,73 +25,79 @@ impl Measured {
     }
 }
 
-/// Times `repeats` calls in a row by each; an error if a call is refused or the two differ.
-pub fn measure(pair: &Pair, image: &[u8], repeats: u32) -> Result<Measured, String> {
-    let (mut monitor, mut reference) = (Duration::MAX, Duration::MAX);
+/// Times `repeats` calls in a row by the monitor and the reference; an error if a call is refused or the two differ.
+pub fn measure(both: [Implementation; 2], call: Call, image: &[u8], repeats: u32) -> Result<Measured, String> {
+    let [mut monitor, mut reference] = [Duration::MAX; 2];
     let mut last = None;
     for _ in 0..RUNS {
-        let (time, monitor_gave) = timed(pair.monitor, image, repeats);
-        monitor = monitor.min(time);
-        let (time, reference_gave) = timed(pair.reference, image, repeats);
-        reference = reference.min(time);
+        let [(monitor_time, monitor_gave), (reference_time, reference_gave)] =
+            both.map(|implementation| timed(implementation, call, image, repeats));
+        monitor = monitor.min(monitor_time);
+        reference = reference.min(reference_time);
         if monitor_gave != reference_gave {
-            return Err(format!("{}: the monitor and the reference differ", pair.name));
+            return Err(format!("{call:?}: the monitor and the reference differ"));
         }
         last = Some(monitor_gave);
     }
-    let (told, mut written) = last.ok_or("nothing was measured")?;
-    if told.number != 0 {
-        return Err(format!("{}: refused {}", pair.name, told.number));
+    let (answer, mut written) = last.ok_or("nothing was measured")?;
+    if answer.number != 0 {
+        return Err(format!("{call:?}: refused {}", answer.number));
     }
-    written.truncate(told.length);
-    Ok(Measured { monitor, reference, told, written })
+    written.truncate(answer.length);
+    Ok(Measured { monitor, reference, answer, written })
 }
 
 /// The time of these calls, what the last one told, and the whole output.
-fn timed(call: Call, image: &[u8], repeats: u32) -> (Duration, (Told, Vec<u8>)) {
+fn timed(implementation: Implementation, call: Call, image: &[u8], repeats: u32) -> (Duration, (Answer, Vec<u8>)) {
     let mut out = vec![0; IMAGE_MAX];
-    let mut told = None;
+    let mut answer = None;
     let began = cpu_time();
     for _ in 0..repeats {
-        told = Some(call(black_box(image), black_box(&mut out)));
+        answer = Some((implementation.call)(call, black_box(image), black_box(&mut out)));
     }
     let time = cpu_time() - began;
-    (time, (told.expect("at least one call"), out))
+    (time, (answer.expect("at least one call"), out))
 }
 
 #[cfg(test)]
 mod tests {
-    use super::{measure, Pair, Told};
+    use super::{measure, Answer, Call, Implementation};
+    use differential::calls::REFERENCE;
 
-    const ONE_BYTE: Told = Told { number: 0, length: 1, busy: 0 };
+    const ONE_BYTE: Answer = Answer { number: 0, length: 1, busy: 0 };
 
-    fn fault(pair: Pair) -> Option<String> {
-        measure(&pair, &[], 1).err()
+    fn answering(call: fn(Call, &[u8], &mut [u8]) -> Answer) -> Implementation {
+        Implementation { call, ..REFERENCE }
+    }
+
+    fn is_measured(monitor: Implementation, reference: Implementation) -> bool {
+        measure([monitor, reference], Call::Rewrite, &[], 1).is_ok()
     }
 
     #[test]
     fn equal_answers_are_measured() {
-        assert_eq!(fault(Pair { name: "", monitor: |_, _| ONE_BYTE, reference: |_, _| ONE_BYTE }), None);
+        let one_byte = answering(|_, _, _| ONE_BYTE);
+        assert!(is_measured(one_byte, one_byte));
     }
 
     #[test]
     fn a_difference_in_any_byte_of_the_output_is_a_fault() {
-        let last_byte_too = |_: &[u8], out: &mut [u8]| {
+        let last_byte_too = answering(|_, _, out| {
             *out.last_mut().unwrap() = 1;
             ONE_BYTE
-        };
-        assert!(fault(Pair { name: "", monitor: last_byte_too, reference: |_, _| ONE_BYTE }).is_some());
+        });
+        assert!(!is_measured(last_byte_too, answering(|_, _, _| ONE_BYTE)));
     }
 
     #[test]
     fn a_difference_in_the_busy_count_is_a_fault() {
-        let busy = |_: &[u8], _: &mut [u8]| Told { busy: 1, ..ONE_BYTE };
-        assert!(fault(Pair { name: "", monitor: busy, reference: |_, _| ONE_BYTE }).is_some());
+        let busy = answering(|_, _, _| Answer { busy: 1, ..ONE_BYTE });
+        assert!(!is_measured(busy, answering(|_, _, _| ONE_BYTE)));
     }
 
     #[test]
     fn a_call_that_both_refuse_is_a_fault() {
-        let refused = |_: &[u8], _: &mut [u8]| Told { number: 3, length: 0, busy: 0 };
-        assert!(fault(Pair { name: "", monitor: refused, reference: refused }).is_some());
+        let refused = answering(|_, _, _| Answer { number: 3, length: 0, busy: 0 });
+        assert!(!is_measured(refused, refused));
     }
 }

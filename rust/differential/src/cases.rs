@@ -3,10 +3,10 @@
 use crate::calls::Call;
 use crate::compare::Comparison;
 use crate::damage::{self, FAULTS};
-use crate::image::Image;
 use crate::images;
-use crate::report::Mismatch;
+use crate::report::{Fact, Mismatch};
 use crate::rng::Rng;
+use layout::Image;
 use rithennaw::{IMAGE_MAX, TURNS_MAX};
 
 type Outcome = Result<(), Mismatch>;
@@ -59,6 +59,7 @@ fn calls(rng: &mut Rng) -> [Call; 4] {
 
 /// Every call of an accepted image with every output, and some records. Gives the image after the turns.
 fn accepted(comparison: &mut Comparison, rng: &mut Rng, image: &[u8]) -> Result<Vec<u8>, Mismatch> {
+    comparison.rewrite(rng, image)?;
     let mut after = image.to_vec();
     for call in calls(rng) {
         let room = IMAGE_MAX + rng.below(9);
@@ -66,12 +67,11 @@ fn accepted(comparison: &mut Comparison, rng: &mut Rng, image: &[u8]) -> Result<
         if agreed.answer.number != 0 {
             continue;
         }
-        let length = agreed.answer.length;
-        for room in [length, length - 1, rng.below(length), rng.between(length, IMAGE_MAX), 0] {
-            comparison.call(rng, call, image, room)?;
-        }
-        if let Call::Turns(_) = call {
-            after = agreed.bytes;
+        outputs(comparison, rng, call, image, agreed.answer.length)?;
+        match call {
+            Call::Turns(_) => after = agreed.bytes,
+            Call::View(_) => comparison.rewrite(rng, &agreed.bytes)?,
+            Call::Rewrite | Call::Sheet(_) => {}
         }
     }
     for _ in 0..3 {
@@ -80,7 +80,19 @@ fn accepted(comparison: &mut Comparison, rng: &mut Rng, image: &[u8]) -> Result<
     Ok(after)
 }
 
-/// The image with each fault in turn, with two faults, with random changes, and random bytes.
+/// An accepted call whose answer has that length, with outputs that are long enough and others that are not.
+fn outputs(comparison: &mut Comparison, rng: &mut Rng, call: Call, image: &[u8], length: usize) -> Outcome {
+    comparison.call(rng, call, image, length)?;
+    comparison.tally.fact(Fact::JustEnough);
+    comparison.call(rng, call, image, length - 1)?;
+    comparison.tally.fact(Fact::ByteTooShort);
+    for room in [rng.below(length), rng.between(length, IMAGE_MAX), 0] {
+        comparison.call(rng, call, image, room)?;
+    }
+    Ok(())
+}
+
+/// The image with a fault, each in its turn, alone and with one or two others; with random changes; and random bytes.
 fn damaged(comparison: &mut Comparison, rng: &mut Rng, image: &Image, seed: u64) -> Outcome {
     let fault = &FAULTS[(seed % FAULTS.len() as u64) as usize];
     for faults in 1..=3 {

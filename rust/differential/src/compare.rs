@@ -45,6 +45,7 @@ impl Comparison {
         rng.fill(&mut before);
         let lent = image.to_vec();
         let [first, second] = self.implementations.map(|implementation| make(implementation, call, &lent, &before));
+        self.tally.compared += 1;
         let fault = if lent != image {
             Some("the image has changed")
         } else if first.answer != second.answer {
@@ -63,10 +64,21 @@ impl Comparison {
         Ok(Agreed { answer: first.answer, bytes })
     }
 
+    /// Has both write an accepted image again, which gives its own bytes.
+    pub fn rewrite(&mut self, rng: &mut Rng, image: &[u8]) -> Result<(), Mismatch> {
+        let agreed = self.call(rng, Call::Rewrite, image, IMAGE_MAX)?;
+        if agreed.answer.number == 0 && agreed.bytes == image {
+            return Ok(());
+        }
+        let gave = format!("{:?} {}", agreed.answer, hex(&agreed.bytes));
+        Err(self.mismatch("an accepted image is not given back", "Rewrite", image, [gave.clone(), gave]))
+    }
+
     /// Asks both where the record of a slot stands.
     pub fn record(&mut self, image: &[u8], slot: u32) -> Result<(), Mismatch> {
         let lent = image.to_vec();
         let [first, second] = self.implementations.map(|implementation| (implementation.record)(&lent, slot));
+        self.tally.compared += 1;
         if first != second || lent != image {
             let parts = [first, second].map(|part| format!("{part:?}"));
             return Err(self.mismatch(

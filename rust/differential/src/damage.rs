@@ -1,9 +1,10 @@
 //! Ways to damage an accepted image, a field of the layout at a time, and the number that each leads to.
 
-use crate::image::{Image, Message, Task, MAIL_MAX, MAIL_PER_LABEL, SLOTS};
+use crate::images::{MAIL_MAX, MAIL_PER_LABEL};
 use crate::instructions::OPERANDS;
 use crate::programs::PROGRAM_MAX;
 use crate::rng::Rng;
+use layout::{Image, Message, Task, MESSAGE_LENGTH, SLOTS, TASK_LENGTH};
 
 /// A way to damage an image.
 pub struct Fault {
@@ -120,7 +121,7 @@ fn record_length(rng: &mut Rng, image: &mut Image, lengths: &[u16]) -> bool {
 
 fn record_length_between(rng: &mut Rng, image: &mut Image) -> bool {
     let messages = rng.below(MAIL_MAX + 1);
-    let length = 37 + 6 * messages + rng.between(1, 5);
+    let length = TASK_LENGTH + MESSAGE_LENGTH * messages + rng.between(1, MESSAGE_LENGTH - 1);
     record_length(rng, image, &[length as u16])
 }
 

@@ -1,9 +1,13 @@
 //! Images that keep every rule, made to do much: few labels, registers that hold slot numbers, full mailboxes, large
 //! spares.
 
-use crate::image::{Image, Message, Task, MAIL_PER_LABEL, SLOTS};
 use crate::programs::{self, PROGRAM_MAX};
 use crate::rng::Rng;
+use layout::{Image, Message, Task, SLOTS};
+
+/// The most messages in a mailbox, and the most of one label.
+pub const MAIL_MAX: usize = 64;
+pub const MAIL_PER_LABEL: usize = 4;
 
 /// All labels.
 pub const LABELS: [u8; 16] = [0, 1, 2, 3, 4, 5, 6, 7, 8, 9, 10, 11, 12, 13, 14, 15];

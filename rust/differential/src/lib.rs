@@ -6,7 +6,6 @@ pub mod calls;
 pub mod cases;
 pub mod compare;
 pub mod damage;
-pub mod image;
 pub mod images;
 pub mod instructions;
 pub mod pairs;

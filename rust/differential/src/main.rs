@@ -1,5 +1,5 @@
-//! Compares the monitor with the reference interpreter seed by seed, and stops at the first difference.
-//! Usage: differential [--first SEED] [--seeds N] [--slotsheet PROGRAM]
+//! Compares the monitor with the reference interpreter seed by seed, and slotsheet with what the reference says.
+//! Usage: differential [--first SEED] [--seeds N] --slotsheet PROGRAM
 
 #![forbid(unsafe_code)]
 
@@ -7,50 +7,73 @@ use differential::calls::BOTH;
 use differential::compare::Comparison;
 use differential::report::Mismatch;
 use differential::secrecy_report::SecrecyTally;
+use differential::slotsheet::SlotsheetTally;
 use differential::{cases, secrecy, slotsheet};
 use std::env;
 use std::ffi::OsString;
 use std::process::ExitCode;
 
-const USAGE: &str = "usage: differential [--first SEED] [--seeds N] [--slotsheet PROGRAM]";
+const USAGE: &str = "usage: differential [--first SEED] [--seeds N] --slotsheet PROGRAM";
+
+/// Mismatches that are shown whole; all are counted.
+const SHOWN: u64 = 3;
 
 /// What the command line asks for.
 struct Options {
     first: u64,
     seeds: u64,
-    slotsheet: Option<OsString>,
+    slotsheet: OsString,
 }
 
 fn options(mut arguments: impl Iterator<Item = OsString>) -> Option<Options> {
-    let mut options = Options { first: 0, seeds: 6_000, slotsheet: None };
+    let (mut first, mut seeds, mut slotsheet) = (0, 6_000, None);
     while let Some(name) = arguments.next() {
         let value = arguments.next()?;
         match name.to_str()? {
-            "--first" => options.first = value.to_str()?.parse().ok()?,
-            "--seeds" => options.seeds = value.to_str()?.parse().ok()?,
-            "--slotsheet" => options.slotsheet = Some(value),
+            "--first" => first = value.to_str()?.parse().ok()?,
+            "--seeds" => seeds = value.to_str()?.parse().ok()?,
+            "--slotsheet" => slotsheet = Some(value),
             _ => return None,
         }
     }
-    Some(options)
+    Some(Options { first, seeds, slotsheet: slotsheet? })
 }
 
-/// Compares all, prints what was compared, and gives what is missing for it to count.
-fn run(options: &Options) -> Result<Vec<String>, Mismatch> {
+/// The number of mismatches so far.
+#[derive(Default)]
+struct Mismatches(u64);
+
+impl Mismatches {
+    /// Counts the mismatch, if there is one.
+    fn note(&mut self, outcome: Result<(), Mismatch>) {
+        if let Err(mismatch) = outcome {
+            self.0 += 1;
+            if self.0 <= SHOWN {
+                eprintln!("differential: {mismatch}");
+            }
+        }
+    }
+}
+
+/// Compares all, prints what was compared and what is missing for it to count, and tells whether all is well.
+fn run(options: &Options) -> bool {
+    let mut mismatches = Mismatches::default();
     let mut comparison = Comparison::new(BOTH);
     let mut secrecy_tally = SecrecyTally::default();
     for seed in (options.first..).take(options.seeds as usize) {
-        cases::run(&mut comparison, seed)?;
-        secrecy::run(&mut secrecy_tally, &BOTH, seed)?;
+        mismatches.note(cases::run(&mut comparison, seed));
+        mismatches.note(secrecy::run(&mut secrecy_tally, &BOTH, seed));
     }
-    println!("{}\n{secrecy_tally}", comparison.tally);
-    let mut missing = [comparison.tally.shortfalls(), secrecy_tally.shortfalls()].concat();
-    if let Some(program) = &options.slotsheet {
-        let sheets = slotsheet::run(program)?;
-        println!("{sheets}");
-        missing.extend(sheets.shortfalls());
+    let mut slotsheet_tally = SlotsheetTally::default();
+    for input in slotsheet::inputs() {
+        mismatches.note(slotsheet::run(&mut slotsheet_tally, &options.slotsheet, &input));
     }
-    Ok(missing)
+    let tally = comparison.tally;
+    println!("{tally}\n{secrecy_tally}\n{slotsheet_tally}");
+    let missing = [tally.shortfalls(), secrecy_tally.shortfalls(), slotsheet_tally.shortfalls()].concat();
+    missing.iter().for_each(|missing| eprintln!("differential: {missing}"));
+    println!("{} calls compared, {} mismatches", tally.compared, mismatches.0);
+    mismatches.0 == 0 && missing.is_empty()
 }
 
 fn main() -> ExitCode {
@@ -58,10 +81,9 @@ fn main() -> ExitCode {
         eprintln!("{USAGE}");
         return ExitCode::FAILURE;
     };
-    match run(&options) {
-        Err(mismatch) => eprintln!("differential: {mismatch}"),
-        Ok(missing) if missing.is_empty() => return ExitCode::SUCCESS,
-        Ok(missing) => missing.iter().for_each(|missing| eprintln!("differential: {missing}")),
+    if run(&options) {
+        ExitCode::SUCCESS
+    } else {
+        ExitCode::FAILURE
     }
-    ExitCode::FAILURE
 }

@@ -4,6 +4,7 @@ use crate::instructions::{
     Operand, ADD, COPY, END, GO, OPERANDS, POLL, RAISE, SANDBOX, SELF, SEND, SET, SUBTRACT, TAKE, ZERO,
 };
 use crate::rng::Rng;
+use layout::Instruction;
 
 /// The longest program, in instructions.
 pub const PROGRAM_MAX: usize = 256;
@@ -16,7 +17,7 @@ const CODES: [u8; 24] = [
 
 /// A legal instruction of a program of `n`. Its labels are often of `labels` or 15, so that some sends pass and some
 /// do not.
-fn random_instruction(rng: &mut Rng, n: usize, labels: &[u8]) -> [u8; 4] {
+fn random_instruction(rng: &mut Rng, n: usize, labels: &[u8]) -> Instruction {
     let code = rng.pick(&CODES);
     let [a, b, c] = OPERANDS[usize::from(code)].map(|operand| match operand {
         Operand::Label if rng.one_in(4) => 15,
@@ -29,7 +30,7 @@ fn random_instruction(rng: &mut Rng, n: usize, labels: &[u8]) -> [u8; 4] {
 }
 
 /// A fragment that begins at place `at`. Register 1 has the slot to send to and register 2 a value.
-fn fragment(rng: &mut Rng, at: u8, label: u8, size: u8) -> Vec<[u8; 4]> {
+fn fragment(rng: &mut Rng, at: u8, label: u8, size: u8) -> Vec<Instruction> {
     match rng.below(8) {
         // Sends to every slot, and on to slots that there are not.
         0 => vec![[SET, 7, 0, 1], [SEND, 1, label, 2], [ADD, 1, 1, 7], [GO, at + 1, 0, 0]],
@@ -51,7 +52,7 @@ fn fragment(rng: &mut Rng, at: u8, label: u8, size: u8) -> Vec<[u8; 4]> {
 }
 
 /// Whole fragments up to about `n` instructions, with labels of `labels` or 15.
-fn of_fragments(rng: &mut Rng, n: usize, labels: &[u8]) -> Vec<[u8; 4]> {
+fn of_fragments(rng: &mut Rng, n: usize, labels: &[u8]) -> Vec<Instruction> {
     let mut program = Vec::new();
     while program.len() < n.clamp(1, PROGRAM_MAX - 8) {
         let label = if rng.one_in(2) { 15 } else { rng.pick(labels) };
@@ -62,7 +63,7 @@ fn of_fragments(rng: &mut Rng, n: usize, labels: &[u8]) -> Vec<[u8; 4]> {
 }
 
 /// A legal program of `n` random instructions, whose labels are often of `labels`.
-pub fn of_length(rng: &mut Rng, n: usize, labels: &[u8]) -> Vec<[u8; 4]> {
+pub fn of_length(rng: &mut Rng, n: usize, labels: &[u8]) -> Vec<Instruction> {
     let mut program: Vec<_> = (0..n).map(|_| random_instruction(rng, n, labels)).collect();
     // Most programs begin again at their end; tasks run off the others.
     if !rng.one_in(4) {
@@ -72,7 +73,7 @@ pub fn of_length(rng: &mut Rng, n: usize, labels: &[u8]) -> Vec<[u8; 4]> {
 }
 
 /// A legal program whose labels are often of `labels`.
-pub fn program(rng: &mut Rng, labels: &[u8]) -> Vec<[u8; 4]> {
+pub fn program(rng: &mut Rng, labels: &[u8]) -> Vec<Instruction> {
     let n = match rng.below(20) {
         0 => PROGRAM_MAX,
         1 => rng.between(1, PROGRAM_MAX),

@@ -10,9 +10,8 @@ const CALLS_MIN: u64 = 200_000;
 /// The least number of calls with each number that a call may tell, and of records with each outcome.
 const EACH_MIN: u64 = 100;
 
-/// A call with at least so many busy turns is a long run, and the least number of them.
+/// A call with at least so many busy turns is a long run.
 const LONG_RUN: u64 = 100_000;
-const LONG_RUNS_MIN: u64 = 20;
 
 /// The calls that write, with the number that each may tell beside 0 and 3 to 13.
 const CALLS: [(&str, Option<usize>); 4] =
@@ -30,6 +29,31 @@ impl fmt::Display for Mismatch {
     }
 }
 
+/// What is counted of calls beside their numbers.
+#[derive(Debug, Clone, Copy)]
+pub enum Fact {
+    NoTurns,
+    OneRound,
+    Rounds,
+    ManyRounds,
+    MostTurns,
+    LongRun,
+    JustEnough,
+    ByteTooShort,
+}
+
+/// The words for each fact, and the least number of calls of which it holds.
+const FACTS: [(&str, u64); 8] = [
+    ("0 turns", 100),
+    ("1 to 16 turns", 100),
+    ("17 to 999 turns", 100),
+    ("1,000 to 999,998 turns", 100),
+    ("999,999 or 1,000,000 turns", 40),
+    ("100,000 or more busy turns", 20),
+    ("output just long enough", 100),
+    ("output a byte too short", 100),
+];
+
 /// What a record's part was, and why it was empty.
 #[derive(Debug, Clone, Copy)]
 pub enum RecordOutcome {
@@ -46,11 +70,13 @@ const OUTCOMES: [&str; 4] = ["found", "unused slot", "slot above 15", "refused i
 pub struct Tally {
     calls: [[u64; NUMBERS]; CALLS.len()],
     records: [u64; OUTCOMES.len()],
-    long_runs: u64,
+    facts: [u64; FACTS.len()],
+    /// All calls that were compared, those that differ included.
+    pub compared: u64,
 }
 
 impl Tally {
-    /// Counts a call by what it told.
+    /// Counts a call in which the two agreed, by what they told.
     pub fn call(&mut self, call: Call, answer: Answer) {
         let row = match call {
             Call::Rewrite => 0,
@@ -59,22 +85,35 @@ impl Tally {
             Call::Sheet(_) => 3,
         };
         self.calls[row][usize::from(answer.number)] += 1;
-        self.long_runs += u64::from(answer.busy >= LONG_RUN);
+        if let (Call::Turns(count), 0) = (call, answer.number) {
+            self.fact(match count {
+                0 => Fact::NoTurns,
+                1..=16 => Fact::OneRound,
+                17..=999 => Fact::Rounds,
+                1_000..=999_998 => Fact::ManyRounds,
+                _ => Fact::MostTurns,
+            });
+        }
+        if answer.busy >= LONG_RUN {
+            self.fact(Fact::LongRun);
+        }
     }
 
-    /// Counts a record.
+    /// Counts a call of which that holds.
+    pub fn fact(&mut self, fact: Fact) {
+        self.facts[fact as usize] += 1;
+    }
+
+    /// Counts a record on which the two agreed.
     pub fn record(&mut self, outcome: RecordOutcome) {
         self.records[outcome as usize] += 1;
     }
 
-    fn total(&self) -> u64 {
-        self.calls.iter().flatten().chain(&self.records).sum()
-    }
-
     /// What is missing for the run to count, or is there and may not be.
     pub fn shortfalls(&self) -> Vec<String> {
-        let total = (self.total() < CALLS_MIN).then(|| format!("fewer than {CALLS_MIN} calls"));
-        let long_runs = (self.long_runs < LONG_RUNS_MIN).then(|| format!("fewer than {LONG_RUNS_MIN} long runs"));
+        let total = (self.compared < CALLS_MIN).then(|| format!("fewer than {CALLS_MIN} calls"));
+        let facts = FACTS.iter().zip(self.facts).filter(|&((_, least), count)| count < *least);
+        let facts = facts.map(|((name, least), _)| format!("{name}: fewer than {least} calls"));
         let cells = CALLS.iter().zip(&self.calls).flat_map(|(&(name, own), counts)| {
             counts.iter().enumerate().filter_map(move |(number, &count)| {
                 match number == 0 || number >= 3 || own == Some(number) {
@@ -86,7 +125,7 @@ impl Tally {
         });
         let records = OUTCOMES.iter().zip(self.records).filter(|&(_, count)| count < EACH_MIN);
         let records = records.map(|(name, _)| format!("record, {name}: fewer than {EACH_MIN} calls"));
-        total.into_iter().chain(long_runs).chain(cells).chain(records).collect()
+        total.into_iter().chain(facts).chain(cells).chain(records).collect()
     }
 }
 
@@ -99,7 +138,7 @@ impl fmt::Display for Tally {
             counts.iter().try_for_each(|count| write!(f, "{count:>8}"))?;
         }
         write!(f, "\nrecord: {}", list(&OUTCOMES, &self.records))?;
-        write!(f, "\n{} calls compared, {} of them with {LONG_RUN} busy turns or more", self.total(), self.long_runs)
+        write!(f, "\nof these: {}", list(&FACTS.map(|(name, _)| name), &self.facts))
     }
 }
 

@@ -6,20 +6,26 @@ use crate::pairs::{self, flows};
 use crate::report::{hex, Mismatch};
 use crate::rng::Rng;
 use crate::secrecy_report::{SecrecyTally, Seen, OBSERVERS};
+use layout::TASK_LENGTH;
 use rithennaw::{IMAGE_MAX, TURNS_MAX};
-
-/// Bytes of a record that change only where its task runs: those ahead of the mail.
-const AHEAD_OF_MAIL: usize = 37;
 
 /// A turn call of a list.
 #[derive(Debug, Clone, Copy, PartialEq, Eq)]
 enum Step {
     /// Accepted.
     Turns(u64),
+    /// Accepted: the output is just long enough for the image after that many turns.
+    JustEnough(u64),
     /// Refused with 2.
     TooMany(u64),
     /// Refused with 13: the output is a byte too short for the image after that many turns.
     TooShort(u64),
+}
+
+impl Step {
+    fn is_refused(&self) -> bool {
+        matches!(self, Step::TooMany(_) | Step::TooShort(_))
+    }
 }
 
 /// An image and a list of turn calls that starts from it.
@@ -54,7 +60,7 @@ fn list(rng: &mut Rng, total: u64) -> Vec<Step> {
     let mut left = total;
     while left > 0 {
         let n = if rng.one_in(3) { left } else { rng.below(left as usize + 1) as u64 };
-        steps.push(Step::Turns(n));
+        steps.push(if rng.one_in(3) { Step::JustEnough(n) } else { Step::Turns(n) });
         left -= n;
     }
     for _ in 0..rng.below(4) {
@@ -93,9 +99,7 @@ impl Trial<'_> {
         Ok(Seen {
             images_differ: starts[0] != starts[1],
             lists_differ: first.list != second.list,
-            calls_refused: [first, second]
-                .iter()
-                .any(|run| run.list.iter().any(|step| !matches!(step, Step::Turns(_)))),
+            calls_refused: [first, second].iter().any(|run| run.list.iter().any(Step::is_refused)),
             hidden_task_ran: ran(true),
             visible_task_ran: ran(false),
             busy_counts_differ: ends[0].busy != ends[1].busy,
@@ -124,6 +128,7 @@ impl Trial<'_> {
         for &step in &run.list {
             let (count, room, number) = match step {
                 Step::Turns(count) => (count, IMAGE_MAX, 0),
+                Step::JustEnough(count) => (count, self.length_after(&end.image, count), 0),
                 Step::TooMany(count) => (count, IMAGE_MAX, 2),
                 Step::TooShort(count) => (count, self.length_after(&end.image, count).saturating_sub(1), 13),
             };
@@ -148,7 +153,7 @@ impl Trial<'_> {
     fn ran(&self, start: &[u8], end: &[u8], hidden: bool) -> bool {
         let task = |image: &[u8], slot| {
             let part = (self.implementation.record)(image, slot);
-            image[part].iter().copied().take(AHEAD_OF_MAIL).collect::<Vec<u8>>()
+            image[part].iter().copied().take(TASK_LENGTH).collect::<Vec<u8>>()
         };
         (0..16).any(|slot| match task(start, slot).as_slice() {
             [_, label, ..] if flows(*label, self.observer) != hidden => task(start, slot) != task(end, slot),

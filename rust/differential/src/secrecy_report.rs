@@ -3,8 +3,8 @@
 use crate::report::list;
 use std::fmt;
 
-/// The observers that something can be hidden from: 0 to 14.
-pub const OBSERVERS: usize = 15;
+/// The observers: 0 to 15.
+pub const OBSERVERS: usize = 16;
 
 /// The least number of trials for each observer, and of trials of which each fact holds.
 const OBSERVER_MIN: u64 = 200;

@@ -26,30 +26,32 @@ const REFUSALS: [usize; 11] = [1, 3, 4, 5, 6, 7, 8, 9, 10, 11, 12];
 #[derive(Default)]
 pub struct SlotsheetTally([u64; 14]);
 
-/// Runs the program on every input.
-pub fn run(program: &OsStr) -> Result<SlotsheetTally, Mismatch> {
-    let mut tally = SlotsheetTally::default();
-    for input in (0..SEEDS).map(made_up).chain(of_limits()) {
-        let printed =
-            print(program, &input).map_err(|error| Mismatch(format!("{}: {error}", Path::new(program).display())))?;
-        let expected = reference::slotsheet(&input);
-        if printed != expected {
-            let [printed, expected] = [printed, expected].map(|text| String::from_utf8_lossy(&text).into_owned());
-            return Err(Mismatch(format!("slotsheet, input {}\nprints\n{printed}not\n{expected}", hex(&input))));
-        }
-        let number =
-            String::from_utf8_lossy(&printed).strip_prefix("refused ").and_then(|text| text.trim().parse().ok());
-        tally.0[number.unwrap_or(0)] += 1;
-    }
-    Ok(tally)
+/// Every input.
+pub fn inputs() -> impl Iterator<Item = Vec<u8>> {
+    (0..SEEDS).map(made_up).chain(of_limits())
 }
 
-/// An observer and an image, which every other time has a fault.
+/// Runs the program on an input.
+pub fn run(tally: &mut SlotsheetTally, program: &OsStr, input: &[u8]) -> Result<(), Mismatch> {
+    let printed =
+        print(program, input).map_err(|error| Mismatch(format!("{}: {error}", Path::new(program).display())))?;
+    let expected = reference::slotsheet(input);
+    let text = |bytes: &[u8]| String::from_utf8_lossy(bytes).into_owned();
+    if printed != expected {
+        let (printed, expected) = (text(&printed), text(&expected));
+        return Err(Mismatch(format!("slotsheet, input {}\nprints\n{printed}not\n{expected}", hex(input))));
+    }
+    let number = text(&printed).strip_prefix("refused ").and_then(|number| number.trim().parse().ok());
+    tally.0[number.unwrap_or(0)] += 1;
+    Ok(())
+}
+
+/// An observer and an image, which every other time has a fault, each in its turn.
 fn made_up(seed: u64) -> Vec<u8> {
     let rng = &mut Rng::new(seed);
     let mut image = images::accepted(rng);
     if seed % 2 == 1 {
-        let fault = &FAULTS[(seed % FAULTS.len() as u64) as usize];
+        let fault = &FAULTS[(seed / 2 % FAULTS.len() as u64) as usize];
         (fault.apply)(rng, &mut image);
     }
     let observer = if rng.one_in(12) { rng.pick(&[16, 17, 128, 255]) } else { rng.byte_below(16) };
@@ -70,9 +72,10 @@ fn of_limits() -> Vec<Vec<u8>> {
     inputs
 }
 
-/// What the program prints for that input.
+/// What the program prints for that input; a failure of its own is an error.
 fn print(program: &OsStr, input: &[u8]) -> io::Result<Vec<u8>> {
-    let mut child = Command::new(program).stdin(Stdio::piped()).stdout(Stdio::piped()).spawn()?;
+    let [stdin, stdout, stderr] = [(); 3].map(|()| Stdio::piped());
+    let mut child = Command::new(program).stdin(stdin).stdout(stdout).stderr(stderr).spawn()?;
     if let Some(mut stdin) = child.stdin.take() {
         // A program that has seen enough may close its input.
         stdin
@@ -80,7 +83,10 @@ fn print(program: &OsStr, input: &[u8]) -> io::Result<Vec<u8>> {
             .or_else(|error| if error.kind() == io::ErrorKind::BrokenPipe { Ok(()) } else { Err(error) })?;
     }
     let output = child.wait_with_output()?;
-    output.status.code().map(|_| output.stdout).ok_or_else(|| io::Error::other(format!("ended by {}", output.status)))
+    if output.status.success() && output.stderr.is_empty() {
+        return Ok(output.stdout);
+    }
+    Err(io::Error::other(format!("{}, and it says: {}", output.status, String::from_utf8_lossy(&output.stderr))))
 }
 
 impl SlotsheetTally {
@@ -95,6 +101,6 @@ impl SlotsheetTally {
 impl fmt::Display for SlotsheetTally {
     fn fmt(&self, f: &mut fmt::Formatter<'_>) -> fmt::Result {
         let total: u64 = self.0.iter().sum();
-        write!(f, "slotsheet: {total} inputs compared, {} sheets", self.0[0])
+        write!(f, "slotsheet: sheets {}, refusals {} in {total} inputs", self.0[0], total - self.0[0])
     }
 }

@@ -1,11 +1,11 @@
 //! The scope document's checked examples, with both implementations and the values that it gives.
 
 use differential::calls::{Call, Implementation, BOTH};
-use differential::image::{Image, Message, Task};
+use layout::{Image, Message, Task};
 
 /// A live task with label 0, no spare, no mail and registers 0.
 fn live(place: u16) -> Task {
-    Task { kind: 1, place, ..Task::default() }
+    Task { place, ..Task::default() }
 }
 
 /// The scope document's image B.
@@ -14,11 +14,6 @@ fn b() -> Image {
     image.slots[0] = Some(Task { registers: [0, 5, 700, 0, 0, 0, 0, 0], ..live(0) });
     image.slots[5] = Some(live(2));
     image
-}
-
-/// A task of the image, to be changed.
-fn task(image: &mut Image, slot: usize) -> &mut Task {
-    image.slots[slot].as_mut().expect("a used slot")
 }
 
 /// Messages of a label, from slot 0.
@@ -61,8 +56,8 @@ fn refused(image: &Image, number: u8) {
 fn p2() -> Image {
     let mut image = b();
     image.turn_slot = 1;
-    task(&mut image, 0).place = 1;
-    task(&mut image, 5).mail = messages(0, 700, 1);
+    image.task(0).place = 1;
+    image.task(5).mail = messages(0, 700, 1);
     image
 }
 
@@ -80,7 +75,7 @@ fn b_has_these_bytes() {
 #[test]
 fn p1_label_5_flows_to_7_and_not_to_6() {
     let mut image = b();
-    task(&mut image, 0).label = 5;
+    image.task(0).label = 5;
     both_give(Call::View(7), &image, Ok((image.bytes(), 0)));
     let mut shown = image.clone();
     shown.slots[0] = None;
@@ -96,7 +91,7 @@ fn p2_b_after_1_turn() {
 fn p3_b_after_6_turns() {
     let mut after = b();
     after.turn_slot = 6;
-    task(&mut after, 0).place = 1;
+    after.task(0).place = 1;
     after.slots[5] = Some(Task { registers: [0, 0, 0, 700, 0, 0, 0, 0], ..live(3) });
     turns_give(&b(), 6, &after, 2);
 }
@@ -104,10 +99,10 @@ fn p3_b_after_6_turns() {
 #[test]
 fn p4_a_send_that_the_label_forbids_stops_the_sender() {
     let mut image = b();
-    task(&mut image, 0).label = 1;
+    image.task(0).label = 1;
     let mut after = image.clone();
     after.turn_slot = 1;
-    task(&mut after, 0).kind = 4;
+    after.task(0).kind = 4;
     turns_give(&image, 1, &after, 1);
 }
 
@@ -117,30 +112,31 @@ fn p5_a_message_above_the_receivers_label_waits() {
     image.program[0][2] = 2;
     let mut after = image.clone();
     after.turn_slot = 6;
-    task(&mut after, 0).place = 1;
+    after.task(0).place = 1;
     let shown = after.clone();
-    task(&mut after, 5).mail = messages(2, 700, 1);
+    after.task(5).mail = messages(2, 700, 1);
     turns_give(&image, 6, &after, 2);
     both_give(Call::View(0), &after, Ok((shown.bytes(), 0)));
 }
 
-/// Slot 3 with spare 4 makes a task of that size: the image before, and after its turn if nothing came of it.
+/// Slot 3 with spare 4 makes a task of that size: the image before, and after its turn if nothing came of it. The label
+/// and register 0 show what the child has of its parent.
 fn sandbox(size: u8) -> [Image; 2] {
-    let mut image = Image::new(vec![[0x0b, 1, 0, size]]);
+    let mut image = Image::new(vec![[0x0b, 1, 2, size], [0; 4], [0; 4]]);
     image.turn_slot = 3;
-    image.slots[3] = Some(Task { spare: 4, ..live(0) });
+    image.slots[3] = Some(Task { label: 6, spare: 4, registers: [99, 0, 0, 0, 0, 0, 0, 0], ..live(0) });
     let after = Image { turn_slot: 4, ..image.clone() };
     [image, after]
 }
 
 /// The task that a sandbox of slot 3 makes.
 fn child(spare: u8) -> Option<Task> {
-    Some(Task { spare, registers: [3, 0, 0, 0, 0, 0, 0, 0], ..live(0) })
+    Some(Task { label: 6, spare, registers: [3, 0, 0, 0, 0, 0, 0, 0], ..live(2) })
 }
 
 /// Slot 3 after its sandbox.
 fn parent(spare: u8, child: u32) -> Option<Task> {
-    Some(Task { spare, registers: [0, child, 0, 0, 0, 0, 0, 0], ..live(1) })
+    Some(Task { label: 6, spare, registers: [99, child, 0, 0, 0, 0, 0, 0], ..live(1) })
 }
 
 #[test]
@@ -158,7 +154,7 @@ fn p7_a_child_of_size_4_stands_in_slot_4_and_one_of_size_5_nowhere() {
     after.slots[4] = child(3);
     turns_give(&image, 1, &after, 1);
     let [image, mut after] = sandbox(5);
-    task(&mut after, 3).kind = 5;
+    after.task(3).kind = 5;
     turns_give(&image, 1, &after, 1);
 }
 
@@ -174,12 +170,12 @@ fn p8_0_less_1_is_4294967295() {
 #[test]
 fn p9_a_fifth_message_of_a_label_is_dropped_and_another_label_has_room() {
     let mut image = b();
-    task(&mut image, 5).mail = messages(2, 9, 4);
+    image.task(5).mail = messages(2, 9, 4);
     let mut after = image.clone();
     after.turn_slot = 1;
-    task(&mut after, 0).place = 1;
+    after.task(0).place = 1;
     let mut dropped = after.clone();
-    task(&mut after, 5).mail.extend(messages(0, 700, 1));
+    after.task(5).mail.extend(messages(0, 700, 1));
     turns_give(&image, 1, &after, 1);
     image.program[0][2] = 2;
     dropped.program[0][2] = 2;
@@ -189,9 +185,9 @@ fn p9_a_fifth_message_of_a_label_is_dropped_and_another_label_has_room() {
 #[test]
 fn four_messages_of_a_label_are_accepted_and_five_refused_with_10() {
     let mut image = b();
-    task(&mut image, 5).mail = messages(6, 1, 4);
+    image.task(5).mail = messages(6, 1, 4);
     accepted(&image);
-    task(&mut image, 5).mail = messages(6, 1, 5);
+    image.task(5).mail = messages(6, 1, 5);
     refused(&image, 10);
 }
 
@@ -200,7 +196,7 @@ fn spare_12_in_slot_3_is_accepted_and_13_refused_with_9() {
     let mut image = Image::new(vec![[0; 4]]);
     image.slots[3] = Some(Task { spare: 12, ..live(0) });
     accepted(&image);
-    task(&mut image, 3).spare = 13;
+    image.task(3).spare = 13;
     refused(&image, 9);
 }
 

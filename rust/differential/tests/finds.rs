@@ -81,6 +81,13 @@ fn a_byte_that_both_write_behind_the_answer() {
 }
 
 #[test]
+fn an_accepted_image_that_both_refuse() {
+    let both = wrong(|_, _, _| Answer { number: 3, length: 0, busy: 0 });
+    let report = difference([both, both]).expect("a difference");
+    assert!(report.starts_with("an accepted image is not given back"), "{report}");
+}
+
+#[test]
 fn a_record_that_starts_elsewhere() {
     found(Implementation {
         name: "wrong",

@@ -3,10 +3,10 @@
 
 use differential::calls::{Call, BOTH};
 use differential::damage::FAULTS;
-use differential::image::{Image, SLOTS};
 use differential::images;
 use differential::instructions::OPERANDS;
 use differential::rng::Rng;
+use layout::{Image, SLOTS};
 use rithennaw::{record, turns, IMAGE_MAX, IMAGE_MIN};
 use std::collections::BTreeSet;
 

@@ -1,20 +1,18 @@
-//! The image: version, program, turn slot and sixteen records; program and records behind their lengths.
+//! The image that the sections of a text describe.
 
 use crate::line::{Fault, Line};
 use crate::program::{instructions, Names};
 use crate::section::{sections, Section};
-use crate::task::record;
+use crate::task::task;
+use layout::{Image, Instruction, Task, SLOTS};
 
-const VERSION: u8 = 1;
-const SLOTS: usize = 16;
-
-/// The parts that the text has given so far; program and records with their lengths.
+/// The parts that the text has given so far.
 #[derive(Default)]
 struct Parts<'a> {
     names: Names<'a>,
-    program: Option<Vec<u8>>,
+    program: Option<Vec<Instruction>>,
     turn_slot: Option<u8>,
-    records: [Option<Vec<u8>>; SLOTS],
+    slots: [Option<Task>; SLOTS],
 }
 
 /// The image that a text describes, or a fault in the text's form.
@@ -33,7 +31,8 @@ impl<'a> Parts<'a> {
             ["program"] => {
                 self.names = Names::read(body)?;
                 let program = instructions(body, &self.names)?;
-                self.program.replace(with_length(head, program)?).is_some()
+                check_length(head, program.as_flattened().len())?;
+                self.program.replace(program).is_some()
             }
             ["turn", slot] => {
                 if let Some(line) = body.first() {
@@ -43,8 +42,9 @@ impl<'a> Parts<'a> {
             }
             ["slot", slot, ..] => {
                 let slot = head.index("slot", slot, SLOTS)?;
-                let record = record(head, body, &self.names)?;
-                self.records[slot].replace(with_length(head, record)?).is_some()
+                let task = task(head, body, &self.names)?;
+                check_length(head, task.record().len())?;
+                self.slots[slot].replace(task).is_some()
             }
             _ => return Err(head.fault("expected `program`, `turn SLOT` or `slot SLOT`")),
         };
@@ -55,19 +55,17 @@ impl<'a> Parts<'a> {
     }
 
     fn bytes(self) -> Vec<u8> {
-        let mut bytes = vec![VERSION];
-        bytes.extend(self.program.unwrap_or(vec![0, 0]));
-        bytes.push(self.turn_slot.unwrap_or(0));
-        for record in self.records {
-            bytes.extend(record.unwrap_or(vec![0, 0]));
-        }
-        bytes
+        let mut image = Image::new(self.program.unwrap_or_default());
+        image.turn_slot = self.turn_slot.unwrap_or(0);
+        image.slots = self.slots;
+        image.bytes()
     }
 }
 
-/// The bytes of a section behind their 2-byte length.
-fn with_length(head: &Line, bytes: Vec<u8>) -> Result<Vec<u8>, Fault> {
-    let length = u16::try_from(bytes.len())
-        .map_err(|_| head.fault(format!("{} bytes are too many for a 2-byte length", bytes.len())))?;
-    Ok([&length.to_be_bytes()[..], &bytes].concat())
+/// A fault where a part is too long for the 2-byte length ahead of it.
+fn check_length(head: &Line, length: usize) -> Result<(), Fault> {
+    if length > usize::from(u16::MAX) {
+        return Err(head.fault(format!("{length} bytes are too many for a 2-byte length")));
+    }
+    Ok(())
 }

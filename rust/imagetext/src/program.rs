@@ -1,8 +1,8 @@
 //! The program: instructions, and the names of places in it.
 
-use std::collections::HashMap;
-
 use crate::line::{Fault, Line};
+use layout::Instruction;
+use std::collections::HashMap;
 
 /// The words of 01's table; an instruction's code is the index of its word.
 const WORDS: [&str; 13] =
@@ -42,16 +42,12 @@ impl<'a> Names<'a> {
     }
 }
 
-/// The instructions' bytes, four each.
-pub fn instructions(body: &[Line], names: &Names) -> Result<Vec<u8>, Fault> {
-    let mut bytes = Vec::new();
-    for line in body.iter().filter(|line| named(line).is_none()) {
-        bytes.extend(instruction(line, names)?);
-    }
-    Ok(bytes)
+/// The instructions on the lines that name no place.
+pub fn instructions(body: &[Line], names: &Names) -> Result<Vec<Instruction>, Fault> {
+    body.iter().filter(|line| named(line).is_none()).map(|line| instruction(line, names)).collect()
 }
 
-fn instruction(line: &Line, names: &Names) -> Result<[u8; 4], Fault> {
+fn instruction(line: &Line, names: &Names) -> Result<Instruction, Fault> {
     let word = line.words[0];
     let code = WORDS
         .iter()

@@ -7,8 +7,8 @@ use crate::mailbox::{Mailbox, Message};
 use crate::slot::Slot;
 use crate::task::{Kind, Registers, Task};
 
-/// What becomes of the task's place, and what reaches beyond the task, after an instruction.
-enum Outcome {
+/// The effect of an instruction on the task's place, and what of it reaches beyond the task.
+enum Effect {
     Next,
     Jump(u16),
     Wait,
@@ -33,20 +33,20 @@ fn turn(image: &mut Image<'_>) -> bool {
     let Some(task) = image.tasks[slot.index()].as_mut().filter(|task| task.is_live()) else {
         return false;
     };
-    let outcome = match image.program.get(usize::from(task.place)) {
+    let effect = match image.program.get(usize::from(task.place)) {
         Some(&instruction) => task.execute(instruction, slot),
-        None => Outcome::Stop(Kind::RanOff),
+        None => Effect::Stop(Kind::RanOff),
     };
-    match outcome {
-        Outcome::Next => task.place += 1,
-        Outcome::Jump(place) => task.place = place,
-        Outcome::Wait => {}
-        Outcome::Stop(kind) => task.kind = kind,
-        Outcome::Deliver { to, message } => {
+    match effect {
+        Effect::Next => task.place += 1,
+        Effect::Jump(place) => task.place = place,
+        Effect::Wait => {}
+        Effect::Stop(kind) => task.kind = kind,
+        Effect::Deliver { to, message } => {
             task.place += 1;
             deliver(&mut image.tasks, to, message);
         }
-        Outcome::Spawn { child, start, size } => {
+        Effect::Spawn { child, start, size } => {
             task.place += 1;
             image.tasks[child.index()] = Some(task.child(start, size, slot));
         }
@@ -64,10 +64,10 @@ fn deliver(tasks: &mut Tasks, to: u32, message: Message) {
 
 impl Task {
     /// Carries out an instruction as far as it concerns this task, which stands in `own`.
-    fn execute(&mut self, instruction: Instruction, own: Slot) -> Outcome {
+    fn execute(&mut self, instruction: Instruction, own: Slot) -> Effect {
         let registers = &mut self.registers;
         match instruction {
-            Instruction::End => return Outcome::Stop(Kind::Done),
+            Instruction::End => return Effect::Stop(Kind::Done),
             Instruction::Set { to, value } => registers.set(to, value.into()),
             Instruction::Copy { to, from } => registers.set(to, registers.get(from)),
             Instruction::Add { to, left, right } => {
@@ -76,17 +76,17 @@ impl Task {
             Instruction::Subtract { to, left, right } => {
                 registers.set(to, registers.get(left).wrapping_sub(registers.get(right)));
             }
-            Instruction::Go { target } => return Outcome::Jump(target.into()),
+            Instruction::Go { target } => return Effect::Jump(target.into()),
             Instruction::Zero { tested, target } => {
                 if registers.get(tested) == 0 {
-                    return Outcome::Jump(target.into());
+                    return Effect::Jump(target.into());
                 }
             }
             Instruction::Raise { label } => self.label = self.label.join(label),
             Instruction::Send { to, label, value } => return self.send(to, label, value, own),
-            Instruction::Take { value, sender } => return self.take(value, sender, Outcome::Wait),
+            Instruction::Take { value, sender } => return self.take(value, sender, Effect::Wait),
             Instruction::Poll { value, sender, otherwise } => {
-                return self.take(value, sender, Outcome::Jump(otherwise.into()));
+                return self.take(value, sender, Effect::Jump(otherwise.into()));
             }
             Instruction::Sandbox { slot, start, size } => return self.sandbox(slot, start, size, own),
             Instruction::Own { label, slot } => {
@@ -94,26 +94,26 @@ impl Task {
                 registers.set(slot, own.number().into());
             }
         }
-        Outcome::Next
+        Effect::Next
     }
 
     /// Checks the sender's label; what follows is the receiver's affair.
-    fn send(&self, to: Register, label: Label, value: Register, own: Slot) -> Outcome {
+    fn send(&self, to: Register, label: Label, value: Register, own: Slot) -> Effect {
         if !self.label.flows_to(label) {
-            return Outcome::Stop(Kind::StoppedByLabel);
+            return Effect::Stop(Kind::StoppedByLabel);
         }
         let message = Message { label, sender: own, value: self.registers.get(value) };
-        Outcome::Deliver { to: self.registers.get(to), message }
+        Effect::Deliver { to: self.registers.get(to), message }
     }
 
-    /// Takes the oldest receivable message; `otherwise` is the outcome without one.
-    fn take(&mut self, value: Register, sender: Register, otherwise: Outcome) -> Outcome {
+    /// Takes the oldest receivable message; `otherwise` is the effect without one.
+    fn take(&mut self, value: Register, sender: Register, otherwise: Effect) -> Effect {
         let Some(message) = self.mailbox.take(self.label) else {
             return otherwise;
         };
         self.registers.set(value, message.value);
         self.registers.set(sender, message.sender.number().into());
-        Outcome::Next
+        Effect::Next
     }
 
     /// The slot of a new task of this size, if the spare holds it.
@@ -122,13 +122,13 @@ impl Task {
     }
 
     /// Gives part of the spare to a new task.
-    fn sandbox(&mut self, register: Register, start: Target, size: u8, own: Slot) -> Outcome {
+    fn sandbox(&mut self, register: Register, start: Target, size: u8, own: Slot) -> Effect {
         let Some(slot) = self.child_slot(size, own) else {
-            return Outcome::Stop(Kind::WantOfSpare);
+            return Effect::Stop(Kind::WantOfSpare);
         };
         self.spare -= size;
         self.registers.set(register, slot.number().into());
-        Outcome::Spawn { child: slot, start, size }
+        Effect::Spawn { child: slot, start, size }
     }
 
     /// A new task of this size, whose parent is this one, which stands in `own`.

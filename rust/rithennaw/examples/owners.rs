@@ -9,10 +9,10 @@ use std::{env, fs};
 fn run() -> Result<(), Box<dyn Error>> {
     let path = env::args_os().nth(1).ok_or("usage: owners IMAGE")?;
     let image = fs::read(path)?;
+    let mut out = io::stdout().lock();
     for (owner, label) in Label::OWNERS.into_iter().enumerate() {
-        let sheet = sheet(&image, label)?;
-        println!("owner {owner}, label {label}");
-        io::stdout().write_all(&sheet)?;
+        writeln!(out, "owner {owner}, label {label}")?;
+        out.write_all(&sheet(&image, label)?)?;
     }
     Ok(())
 }

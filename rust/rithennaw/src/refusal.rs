@@ -6,7 +6,9 @@ use std::{error, fmt};
 /// Makes `Refusal` of the scope document's table: number, word and condition of each.
 macro_rules! refusals {
     ($($name:ident = $number:literal, $word:literal, $condition:literal;)*) => {
-        /// Why a call was refused: the first rule that is broken. The words and the numbers are the scope document's.
+        /// Why a call was refused: the first rule that is broken. The words and the numbers are the scope document's. A
+        /// later edition may have more of them.
+        #[non_exhaustive]
         #[derive(Debug, Clone, Copy, PartialEq, Eq, Hash)]
         #[repr(u8)]
         pub enum Refusal {
@@ -15,7 +17,7 @@ macro_rules! refusals {
 
         impl Refusal {
             /// Every refusal, in the order of the numbers 1 to 13.
-            pub const ALL: [Refusal; 13] = [$(Refusal::$name),*];
+            pub const ALL: &'static [Refusal] = &[$(Refusal::$name),*];
 
             /// The scope document's word for it, such as `record length`.
             pub const fn word(self) -> &'static str {
@@ -57,7 +59,7 @@ impl TryFrom<u8> for Refusal {
     type Error = OutOfRange;
 
     fn try_from(number: u8) -> Result<Refusal, OutOfRange> {
-        let refusal = Refusal::ALL.into_iter().find(|refusal| refusal.number() == number);
+        let refusal = Refusal::ALL.iter().copied().find(|refusal| refusal.number() == number);
         refusal.ok_or(OutOfRange { number, first: 1, last: 13 })
     }
 }

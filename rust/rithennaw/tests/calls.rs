@@ -6,31 +6,21 @@ use rithennaw::{
     Turned, TurnedInto, IMAGE_MAX, IMAGE_MIN, TURNS_MAX,
 };
 
-/// The bytes of a task without mail: kind 1, label, spare 0, place, registers.
-fn task(label: u8, place: u8, registers: [u32; 8]) -> Vec<u8> {
-    let mut record = vec![1, label, 0, 0, place];
-    record.extend(registers.iter().flat_map(|register| register.to_be_bytes()));
-    record
-}
-
-/// An image with those records in its first slots.
-fn image(program: &[[u8; 4]], records: &[Vec<u8>]) -> Vec<u8> {
-    let mut image = vec![1];
-    image.extend((4 * program.len() as u16).to_be_bytes());
-    image.extend(program.concat());
-    image.push(0);
-    for slot in 0..16 {
-        let record = records.get(slot).map_or(&[][..], Vec::as_slice);
-        image.extend((record.len() as u16).to_be_bytes());
-        image.extend(record);
-    }
-    image
+/// The image of a text whose form is right.
+fn image(text: &str) -> Vec<u8> {
+    imagetext::image(text).unwrap()
 }
 
 /// Slot 0, label 1, sends 700 to slot 1 with label 1; both then end.
 fn sender_and_receiver() -> Vec<u8> {
-    let program = [[0x08, 1, 1, 2], [0x00, 0, 0, 0]];
-    image(&program, &[task(1, 0, [0, 1, 700, 0, 0, 0, 0, 0]), task(0, 1, [0; 8])])
+    image(
+        "program
+            send 1 1 2
+        ended:
+            end 0 0 0
+        slot 0  label 1  register 1 1  register 2 700
+        slot 1  place ended",
+    )
 }
 
 /// What a call that writes into a buffer gave: the bytes at its front, those behind them being as they were.
@@ -85,7 +75,7 @@ fn a_record_is_a_part_of_the_image() {
 
 #[test]
 fn the_shortest_image_is_taken_by_every_call() {
-    let image = image(&[[0; 4]], &[]);
+    let image = image("program\n end 0 0 0");
     assert_eq!(image.len(), IMAGE_MIN);
     assert_eq!(rewrite(&image).as_ref(), Ok(&image));
     assert_eq!(turns(&image, 0), Ok(Turned { image: image.clone(), busy: 0 }));

@@ -1,20 +1,26 @@
 //! The calls: records, writing again, views, sheets and the program `slotsheet`.
 
-use super::{b, image_fields, live, written, ImageFields, TaskFields, END, ROOM, UNTOUCHED};
+use super::{b, image, mail, written, END, ROOM, UNTOUCHED};
 use crate::{record, rewrite, sheet, slotsheet, turns, view};
+use layout::{Image, Message, Task, SLOTS};
 
 /// Tasks of the labels 0, 1, 3 and 15, each with mail of several labels.
-fn mixed() -> ImageFields {
-    let mail = vec![(0, 1, 10), (1, 2, 20), (2, 3, 30), (0, 4, 40)];
-    let task = |slot, label, spare| TaskFields { label, spare, mail: mail.clone(), ..live(slot) };
-    image_fields(&[END, END], &[task(0, 0, 1), task(2, 1, 0), task(7, 3, 3), task(15, 15, 0)])
+fn mixed() -> Image {
+    let mail = mail([(0, 1, 10), (1, 2, 20), (2, 3, 30), (0, 4, 40)]);
+    let mut mixed = image(&[END, END], &[]);
+    for (slot, label, spare) in [(0, 0, 1), (2, 1, 0), (7, 3, 3), (15, 15, 0)] {
+        mixed.slots[slot] = Some(Task { label, spare, mail: mail.clone(), ..Task::default() });
+    }
+    mixed
 }
 
 /// What the view for this label leaves of an image.
-fn seen(mut image: ImageFields, observer: u8) -> ImageFields {
-    image.tasks.retain(|task| task.label | observer == observer);
-    for task in &mut image.tasks {
-        task.mail.retain(|(label, _, _)| label | observer == observer);
+fn seen(mut image: Image, observer: u8) -> Image {
+    for slot in &mut image.slots {
+        *slot = slot.take().filter(|task| task.label | observer == observer);
+    }
+    for task in image.slots.iter_mut().flatten() {
+        task.mail.retain(|message| message.label | observer == observer);
     }
     image
 }
@@ -23,20 +29,19 @@ fn seen(mut image: ImageFields, observer: u8) -> ImageFields {
 fn a_record_is_the_part_of_the_image_that_holds_it() {
     let image = mixed();
     let bytes = image.bytes();
-    for slot in 0..18 {
-        let used = image.tasks.iter().find(|task| task.slot == slot);
-        let range = record(&bytes, slot as u32);
-        match used {
-            Some(used) => assert_eq!(bytes[range], used.record()),
+    for (slot, task) in (0..).zip(&image.slots) {
+        let range = record(&bytes, slot);
+        match task {
+            Some(task) => assert_eq!(bytes[range], task.record()),
             None => assert_eq!(range, 0..0),
         }
     }
-    assert_eq!(record(&bytes, u32::MAX), 0..0);
+    assert!([16, 17, u32::MAX].iter().all(|&slot| record(&bytes, slot) == (0..0)));
 }
 
 #[test]
 fn an_image_is_written_again_as_it_was_read() {
-    for bytes in [b().bytes(), mixed().bytes(), image_fields(&[END], &[]).bytes()] {
+    for bytes in [b().bytes(), mixed().bytes(), image(&[END], &[]).bytes()] {
         let mut out = [UNTOUCHED; ROOM];
         let answer = rewrite(&bytes, &mut out);
         assert_eq!((answer.number, answer.busy), (0, 0));
@@ -46,9 +51,10 @@ fn an_image_is_written_again_as_it_was_read() {
 
 #[test]
 fn the_shortest_image_has_40_bytes_and_the_longest_7796() {
-    let mail: Vec<_> = (0..64).map(|index| (index % 16, 15, 0)).collect();
-    let full: Vec<_> = (0..16).map(|slot| TaskFields { mail: mail.clone(), ..live(slot) }).collect();
-    for (image, length) in [(image_fields(&[END], &[]), 40), (image_fields(&[END; 256], &full), 7796)] {
+    let mail: Vec<_> = (0..64).map(|index| Message { label: index % 16, sender: 15, value: 0 }).collect();
+    let mut longest = image(&[END; 256], &[]);
+    longest.slots = [(); SLOTS].map(|()| Some(Task { mail: mail.clone(), ..Task::default() }));
+    for (image, length) in [(image(&[END], &[]), 40), (longest, 7796)] {
         let mut out = [0; ROOM];
         assert_eq!(rewrite(&image.bytes(), &mut out).length, length);
         assert_eq!(turns(&image.bytes(), 0, &mut out).length, length);

@@ -1,7 +1,8 @@
 //! One image for each number and the order in which they are given.
 
-use super::{b, image_fields, live, ImageFields, TaskFields, END, ROOM, UNTOUCHED};
+use super::{after, b, image, mail, END, ROOM, UNTOUCHED};
 use crate::{record, rewrite, sheet, turns, view, Answer};
+use layout::{Image, Task};
 
 /// What a refused call tells.
 fn refused(number: u8) -> Answer {
@@ -21,7 +22,7 @@ fn assert_refused(bytes: &[u8], number: u8) {
 }
 
 /// B with a change to its task in slot 5.
-fn b_with(change: fn(&mut TaskFields)) -> Vec<u8> {
+fn b_with(change: fn(&mut Task)) -> Vec<u8> {
     let mut image = b();
     change(image.task(5));
     image.bytes()
@@ -36,7 +37,7 @@ fn with_byte(mut bytes: Vec<u8>, index: usize, byte: u8) -> Vec<u8> {
 #[test]
 fn short_images_are_3_wherever_they_are_cut() {
     let mut image = b();
-    image.task(5).mail = vec![(0, 0, 1); 4];
+    image.task(5).mail = mail([(0, 0, 1); 4]);
     let bytes = image.bytes();
     for length in 0..bytes.len() {
         assert_refused(&bytes[..length], 3);
@@ -86,7 +87,7 @@ fn instructions_outside_the_table_are_6_and_others_accepted() {
             instruction[1 + operand] = byte;
             let no_size = code == SANDBOX && instruction[3] == 0;
             let number = if u16::from(byte) < limits[operand] && !no_size { 0 } else { 6 };
-            let bytes = image_fields(&[END, instruction], &[]).bytes();
+            let bytes = image(&[END, instruction], &[]).bytes();
             assert_eq!(rewrite(&bytes, &mut [0; ROOM]).number, number, "{instruction:?}");
         }
     }
@@ -95,21 +96,21 @@ fn instructions_outside_the_table_are_6_and_others_accepted() {
 #[test]
 fn codes_behind_the_table_are_6() {
     for code in 13..=255 {
-        assert_refused(&image_fields(&[END, [code, 0, 0, 0]], &[]).bytes(), 6);
+        assert_refused(&image(&[END, [code, 0, 0, 0]], &[]).bytes(), 6);
     }
 }
 
 #[test]
 fn turn_slots_above_15_are_7() {
     for turn_slot in [16, 255] {
-        assert_refused(&ImageFields { turn_slot, ..b() }.bytes(), 7);
+        assert_refused(&Image { turn_slot, ..b() }.bytes(), 7);
     }
 }
 
 #[test]
 fn record_lengths_outside_the_rule_are_8() {
     for length in [1u16, 6, 36, 38, 42, 44, 420, 422, 427, 65535] {
-        let mut bytes = image_fields(&[END], &[]).head();
+        let mut bytes = image(&[END], &[]).head();
         bytes.extend(length.to_be_bytes());
         assert_refused(&bytes, 8);
     }
@@ -117,7 +118,7 @@ fn record_lengths_outside_the_rule_are_8() {
 
 #[test]
 fn task_fields_out_of_range_are_9() {
-    let changes: [fn(&mut TaskFields); 6] = [
+    let changes: [fn(&mut Task); 6] = [
         |task| task.kind = 0,
         |task| task.kind = 6,
         |task| task.label = 16,
@@ -133,10 +134,10 @@ fn task_fields_out_of_range_are_9() {
 
 #[test]
 fn mail_out_of_range_is_10() {
-    let changes: [fn(&mut TaskFields); 3] = [
-        |task| task.mail = vec![(16, 0, 0)],
-        |task| task.mail = vec![(0, 16, 0)],
-        |task| task.mail = vec![(1, 0, 0), (1, 0, 0), (2, 0, 0), (1, 0, 0), (1, 0, 0), (1, 0, 0)],
+    let changes: [fn(&mut Task); 3] = [
+        |task| task.mail = mail([(16, 0, 0)]),
+        |task| task.mail = mail([(0, 16, 0)]),
+        |task| task.mail = mail([(1, 0, 0), (1, 0, 0), (2, 0, 0), (1, 0, 0), (1, 0, 0), (1, 0, 0)]),
     ];
     for change in changes {
         assert_refused(&b_with(change), 10);
@@ -151,7 +152,7 @@ fn bytes_behind_slot_15_are_11() {
 #[test]
 fn a_used_slot_in_the_spare_of_a_stopped_task_is_12() {
     for kind in 1..=5 {
-        let mut image = image_fields(&[END], &[live(3), live(5)]);
+        let mut image = image(&[END], &[3, 5]);
         (image.task(3).kind, image.task(3).spare) = (kind, 2);
         assert_refused(&image.bytes(), 12);
     }
@@ -160,7 +161,7 @@ fn a_used_slot_in_the_spare_of_a_stopped_task_is_12() {
 #[test]
 fn an_output_shorter_than_the_answer_is_13() {
     let bytes = b().bytes();
-    let (after, _) = b().after(1);
+    let (after, _) = after(&b(), 1);
     assert!(after.len() > bytes.len());
     let mut out = vec![UNTOUCHED; after.len() - 1];
     let expected = refused(13);
@@ -184,15 +185,15 @@ fn arguments_come_ahead_of_the_image() {
 /// Each image has two or more faults; the first in document 01's order is given.
 #[test]
 fn the_first_fault_is_given() {
-    let end = image_fields(&[END], &[]);
-    let wrong_code = image_fields(&[[13, 0, 0, 0], END], &[]).bytes();
-    let faulty_task = |change: fn(&mut TaskFields)| {
-        let mut image = image_fields(&[END], &[live(14), live(15)]);
+    let end = image(&[END], &[]);
+    let wrong_code = image(&[[13, 0, 0, 0], END], &[]).bytes();
+    let faulty_task = |change: fn(&mut Task)| {
+        let mut image = image(&[END], &[14, 15]);
         image.task(15).label = 16;
         change(image.task(14));
         image.bytes()
     };
-    let cut_record = |change: fn(&mut TaskFields)| {
+    let cut_record = |change: fn(&mut Task)| {
         let bytes = faulty_task(change);
         bytes[..bytes.len() - 40].to_vec()
     };
@@ -208,8 +209,8 @@ fn the_first_fault_is_given() {
         ([end.head(), vec![0, 36]].concat(), 8),
         ([end.head(), vec![0, 37, 0]].concat(), 3),
         (cut_record(|task| task.kind = 0), 3),
-        (faulty_task(|task| task.mail = vec![(16, 0, 0)]), 10),
-        (faulty_task(|task| (task.kind, task.mail) = (0, vec![(16, 0, 0)])), 9),
+        (faulty_task(|task| task.mail = mail([(16, 0, 0)])), 10),
+        (faulty_task(|task| (task.kind, task.mail) = (0, mail([(16, 0, 0)]))), 9),
         ([faulty_task(|task| task.spare = 1), vec![0]].concat(), 9),
     ];
     for (bytes, number) in ordered {
@@ -219,7 +220,7 @@ fn the_first_fault_is_given() {
 
 #[test]
 fn tail_comes_ahead_of_estate_and_estate_ahead_of_output() {
-    let mut image = image_fields(&[END], &[live(3), live(5)]);
+    let mut image = image(&[END], &[3, 5]);
     image.task(3).spare = 2;
     assert_refused(&[image.bytes(), vec![0]].concat(), 11);
     assert_eq!(rewrite(&image.bytes(), &mut []).number, 12);

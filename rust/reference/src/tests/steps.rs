@@ -1,11 +1,12 @@
 //! The step rules, instruction by instruction.
 
-use super::{image_fields, live, Code, ImageFields, TaskFields, END};
+use super::{after, image, mail, END};
+use layout::{Image, Instruction, Message, Task};
 
-/// A live task in slot 2 of label 5, at place 1 of a program of three instructions, about to carry
-/// out this one; the registers hold 100 to 107.
-fn about_to(instruction: Code) -> ImageFields {
-    let mut image = image_fields(&[END, instruction, END], &[live(2)]);
+/// A live task in slot 2 of label 5, at place 1 of a program of three instructions, about to carry out this one; the
+/// registers hold 100 to 107.
+fn about_to(instruction: Instruction) -> Image {
+    let mut image = image(&[END, instruction, END], &[2]);
     image.turn_slot = 2;
     let task = image.task(2);
     (task.label, task.place) = (5, 1);
@@ -14,15 +15,15 @@ fn about_to(instruction: Code) -> ImageFields {
 }
 
 /// One turn makes this change to the task in slot 2 and no other.
-fn assert_step(image: &ImageFields, change: impl FnOnce(&mut TaskFields)) {
+fn assert_step(image: &Image, change: impl FnOnce(&mut Task)) {
     let mut expected = image.clone();
     expected.turn_slot = 3;
     change(expected.task(2));
-    assert_eq!(image.after(1), (expected.bytes(), 1));
+    assert_eq!(after(image, 1), (expected.bytes(), 1));
 }
 
 /// One turn goes on to place 2 and puts these figures into registers.
-fn assert_registers(instruction: Code, figures: &[(usize, u32)]) {
+fn assert_registers(instruction: Instruction, figures: &[(usize, u32)]) {
     assert_step(&about_to(instruction), |task| {
         task.place = 2;
         for &(register, figure) in figures {
@@ -82,22 +83,22 @@ fn stopped_tasks_and_unused_slots_are_not_busy() {
         image.task(2).kind = kind;
         let mut expected = image.clone();
         expected.turn_slot = 4;
-        assert_eq!(image.after(2), (expected.bytes(), 0));
+        assert_eq!(after(&image, 2), (expected.bytes(), 0));
     }
 }
 
 #[test]
 fn slot_15_is_followed_by_slot_0() {
-    let mut image = image_fields(&[END], &[live(0)]);
+    let mut image = image(&[END], &[0]);
     image.turn_slot = 15;
     let mut expected = image.clone();
     (expected.turn_slot, expected.task(0).kind) = (1, 2);
-    assert_eq!(image.after(2), (expected.bytes(), 1));
+    assert_eq!(after(&image, 2), (expected.bytes(), 1));
 }
 
 /// Mail of which only the third and the fourth message are receivable with label 5.
-fn mixed_mail() -> Vec<super::Mail> {
-    vec![(2, 9, 70), (15, 8, 71), (4, 7, 72), (0, 6, 73)]
+fn mixed_mail() -> Vec<Message> {
+    mail([(2, 9, 70), (15, 8, 71), (4, 7, 72), (0, 6, 73)])
 }
 
 #[test]
@@ -128,13 +129,13 @@ fn the_sender_stays_where_both_registers_are_the_same() {
 fn with_nothing_receivable_take_waits_and_poll_jumps() {
     for (instruction, place) in [([9, 3, 4, 0], 1), ([10, 3, 4, 0], 0)] {
         let mut image = about_to(instruction);
-        image.task(2).mail = vec![(2, 9, 70), (15, 8, 71)];
+        image.task(2).mail = mail([(2, 9, 70), (15, 8, 71)]);
         assert_step(&image, |task| task.place = place);
     }
 }
 
 /// A task in slot 2 of label 5 about to send label 7 and the figure 102 to the slot in register 1.
-fn about_to_send(to: u32) -> ImageFields {
+fn about_to_send(to: u32) -> Image {
     let mut image = about_to([8, 1, 7, 2]);
     image.task(2).registers[1] = to;
     image
@@ -142,7 +143,7 @@ fn about_to_send(to: u32) -> ImageFields {
 
 #[test]
 fn a_task_may_send_to_itself() {
-    assert_step(&about_to_send(2), |task| (task.place, task.mail) = (2, vec![(7, 2, 102)]));
+    assert_step(&about_to_send(2), |task| (task.place, task.mail) = (2, mail([(7, 2, 102)])));
 }
 
 #[test]
@@ -152,7 +153,7 @@ fn sends_to_no_live_task_are_dropped() {
     }
     for kind in 2..=5 {
         let mut image = about_to_send(3);
-        image.tasks.push(TaskFields { kind, ..live(3) });
+        image.slots[3] = Some(Task { kind, ..Task::default() });
         assert_step(&image, |task| task.place = 2);
     }
 }
@@ -160,12 +161,12 @@ fn sends_to_no_live_task_are_dropped() {
 #[test]
 fn a_full_label_drops_and_others_are_kept() {
     let mut image = about_to_send(2);
-    image.task(2).mail = vec![(7, 1, 0), (7, 1, 1), (6, 1, 2), (7, 1, 3), (7, 1, 4)];
+    image.task(2).mail = mail([(7, 1, 0), (7, 1, 1), (6, 1, 2), (7, 1, 3), (7, 1, 4)]);
     assert_step(&image, |task| task.place = 2);
     image.task(2).mail.pop();
     assert_step(&image, |task| {
         task.place = 2;
-        task.mail.push((7, 2, 102));
+        task.mail.extend(mail([(7, 2, 102)]));
     });
 }
 
@@ -186,8 +187,7 @@ fn a_child_runs_in_the_same_round() {
     expected.turn_slot = 4;
     let parent = expected.task(2);
     (parent.spare, parent.place, parent.registers[1]) = (0, 2, 3);
-    let mut child = TaskFields { kind: 2, label: 5, place: 2, ..live(3) };
-    child.registers[0] = 2;
-    expected.tasks.push(child);
-    assert_eq!(image.after(2), (expected.bytes(), 2));
+    let registers = [2, 0, 0, 0, 0, 0, 0, 0];
+    expected.slots[3] = Some(Task { kind: 2, label: 5, place: 2, registers, ..Task::default() });
+    assert_eq!(after(&image, 2), (expected.bytes(), 2));
 }

@@ -1,0 +1,42 @@
+//! The program: what it prints is counted, and a slotsheet that prints something else is a mismatch.
+
+use differential::slotsheet;
+use std::process::{Command, Output};
+
+fn differential(arguments: &[&str]) -> Output {
+    Command::new(env!("CARGO_BIN_EXE_differential")).args(arguments).output().unwrap()
+}
+
+/// The calls in the printed counts: a line for each call that writes, and one of records, with commas.
+fn calls(printed: &str) -> u64 {
+    let counts = printed.lines().flat_map(|line| match line.split_once(' ') {
+        Some(("rewrite" | "turns" | "view" | "sheet", counts)) => counts.split_whitespace().collect(),
+        Some(("record:", counts)) => counts.split(", ").filter_map(|count| count.rsplit(' ').next()).collect(),
+        _ => vec![],
+    });
+    counts.map(|count| count.parse::<u64>().unwrap()).sum()
+}
+
+#[test]
+fn the_last_line_counts_calls_and_mismatches() {
+    // The program `true` prints nothing, which is wrong for every input of slotsheet.
+    let mismatches = slotsheet::inputs().count();
+    assert!(mismatches > 300);
+    let output = differential(&["--first", "7", "--seeds", "20", "--slotsheet", "true"]);
+    let [printed, said] = [output.stdout, output.stderr].map(|text| String::from_utf8(text).unwrap());
+    let calls = calls(&printed);
+    assert!(calls > 1_000, "{printed}");
+    assert_eq!(printed.lines().last(), Some(format!("{calls} calls compared, {mismatches} mismatches").as_str()));
+    assert!(said.starts_with("differential: slotsheet, input "), "{said}");
+    assert!(said.contains("\ndifferential: fewer than 200000 calls\n"), "{said}");
+    assert!(!output.status.success());
+}
+
+#[test]
+fn nothing_is_compared_without_slotsheet() {
+    for arguments in [&[][..], &["--seeds", "1"], &["--slotsheet"], &["--seed", "1", "--slotsheet", "true"]] {
+        let output = differential(arguments);
+        let usage = b"usage: differential [--first SEED] [--seeds N] --slotsheet PROGRAM\n".to_vec();
+        assert_eq!((output.stdout, output.stderr, output.status.success()), (vec![], usage, false));
+    }
+}
