@@ -15,11 +15,11 @@
  * beforehand does not matter. The image, the output and the numbers pointed to must not overlap, one with another.
  *
  * Threads and memory. There are no globals, nothing is allocated and nothing is kept between calls. Any number of threads
- * may call at a time, also on one image, as long as no thread writes what another call is lent, or reads what it may write. Every call returns: none
- * waits, and none fails but by its number. A call takes less than RITHENNAW_STACK bytes of the caller's stack, what the
- * loader takes to bind memset at the first call included. That is measured on x86-64 and not proved; `make link-test`
- * prints the figure of each call and fails where one is not less. Of the C library the archive uses memset, memcpy and
- * memmove at most.
+ * may call at a time, also on one image, as long as no thread writes what another call is lent, or reads what it may write.
+ * Every call returns: none waits, and none fails but by its number. A call takes less than RITHENNAW_STACK bytes of the
+ * caller's stack, what the loader takes to bind memset and memcpy at a first call included. That is measured on x86-64 and
+ * not proved; `make link-test` prints the figure of each call and fails where one is not less. Of the C library the archive
+ * uses memset, memcpy and memmove at most.
  */
 #ifndef RITHENNAW_H
 #define RITHENNAW_H

@@ -1,6 +1,7 @@
 /*
  * The archive linked into a C program: the scope document's image B, and its examples P2, P3 and P5 through the header,
- * every byte compared; a record's part; the refusals 1, 2, 3 and 13, which leave the output as it was.
+ * every byte compared; a record's part; the sheets of P2 and P5; the refusals 1, 2, 3 and 13, which leave the output as it
+ * was.
  */
 #include <stdint.h>
 #include <stdio.h>
@@ -189,6 +190,19 @@ static void views(const char *call, const struct image *image, uint32_t observer
     }
 }
 
+/* A refused call has no text. */
+static void sheets(const char *call, const struct image *image, uint32_t observer, size_t room, unsigned number,
+                   const char *text)
+{
+    static struct image should;
+    should.length = strlen(text);
+    memcpy(should.bytes, text, should.length);
+    fill();
+    expect_number(rithennaw_sheet(image->bytes, image->length, observer, out, room, &length), number, call,
+                  "the number");
+    expect_written(call, &should);
+}
+
 static void record(const char *call, const struct image *image, uint32_t slot, size_t should_start,
                    size_t should_length)
 {
@@ -202,6 +216,9 @@ static void record(const char *call, const struct image *image, uint32_t slot, s
 int main(void)
 {
     static struct image b, p2, p3, ended, p5, p5_after, p5_for_0, cut, empty;
+    /* Each has the message in slot 5, but for the view of P5 for 0. */
+    static const char p2_sheet[] = "slot kind label spare pc mail\n0 1 0 0 1 0\n5 1 0 0 2 1\n";
+    static const char p5_sheet_for_0[] = "slot kind label spare pc mail\n0 1 0 0 1 0\n5 1 0 0 2 0\n";
 
     make_b(&b);
     expect_number(b.length, B_LENGTH, "B", "the length");
@@ -259,10 +276,16 @@ int main(void)
     views("view of P5 for 2", &p5_after, 2, OUT_LENGTH, RITHENNAW_ACCEPTED, &p5_after);
     views("view of P5 for 15", &p5_after, 15, OUT_LENGTH, RITHENNAW_ACCEPTED, &p5_after);
 
+    sheets("sheet of P2 for 0", &p2, 0, OUT_LENGTH, RITHENNAW_ACCEPTED, p2_sheet);
+    sheets("sheet of P2 for 0 into just enough", &p2, 0, strlen(p2_sheet), RITHENNAW_ACCEPTED, p2_sheet);
+    sheets("sheet of P5 for 2", &p5_after, 2, OUT_LENGTH, RITHENNAW_ACCEPTED, p2_sheet);
+    sheets("sheet of P5 for 0", &p5_after, 0, OUT_LENGTH, RITHENNAW_ACCEPTED, p5_sheet_for_0);
+
     /* 1 and 2, ahead of the image. */
     views("view for 16", &b, 16, OUT_LENGTH, RITHENNAW_OBSERVER, NULL);
     views("view for 256", &b, 256, OUT_LENGTH, RITHENNAW_OBSERVER, NULL);
     views("view for 16 of no bytes", &empty, 16, 0, RITHENNAW_OBSERVER, NULL);
+    sheets("sheet for 16 of no bytes", &empty, 16, 0, RITHENNAW_OBSERVER, "");
     turns("1,000,001 turns", &b, RITHENNAW_TURNS_MAX + 1, OUT_LENGTH, RITHENNAW_TURN_LIMIT, NULL, 0);
     turns("2^32 turns", &b, (uint64_t)1 << 32, OUT_LENGTH, RITHENNAW_TURN_LIMIT, NULL, 0);
     turns("1,000,001 turns of no bytes", &empty, RITHENNAW_TURNS_MAX + 1, 0, RITHENNAW_TURN_LIMIT, NULL, 0);
@@ -274,6 +297,7 @@ int main(void)
     rewrites("rewrite of B cut by a byte", cut.bytes, cut.length, OUT_LENGTH, RITHENNAW_SHORT, NULL);
     turns("turns of B cut by a byte", &cut, 1, OUT_LENGTH, RITHENNAW_SHORT, NULL, 0);
     views("view of B cut by a byte", &cut, 0, OUT_LENGTH, RITHENNAW_SHORT, NULL);
+    sheets("sheet of B cut by a byte", &cut, 0, OUT_LENGTH, RITHENNAW_SHORT, "");
     record("record of slot 0 of no bytes", &empty, 0, 0, 0);
     rewrites("rewrite of no bytes", empty.bytes, 0, 0, RITHENNAW_SHORT, NULL);
     turns("turns of no bytes", &empty, 1, 0, RITHENNAW_SHORT, NULL, 0);
@@ -283,6 +307,7 @@ int main(void)
     rewrites("rewrite of B into a byte too few", b.bytes, b.length, b.length - 1, RITHENNAW_OUTPUT, NULL);
     turns("B after 1 turn into a byte too few", &b, 1, p2.length - 1, RITHENNAW_OUTPUT, NULL, 0);
     views("view of P5 for 0 into a byte too few", &p5_after, 0, p5_for_0.length - 1, RITHENNAW_OUTPUT, NULL);
+    sheets("sheet of P2 into a byte too few", &p2, 0, strlen(p2_sheet) - 1, RITHENNAW_OUTPUT, "");
 
     printf("b.c: %u checks, %u failed\n", checks, faults);
     return faults == 0 ? 0 : 1;

@@ -1,5 +1,6 @@
 //! The archive linked into a Rust program: the scope document's image B, and its examples P2, P3 and P5 through the C
-//! interface, every byte compared; a record's part; the refusals 1, 2, 3 and 13, which leave the output as it was.
+//! interface, every byte compared; a record's part; the sheets of P2 and P5; the refusals 1, 2, 3 and 13, which leave the
+//! output as it was.
 
 mod c {
     #[link(name = "rithennaw", kind = "static")]
@@ -12,6 +13,9 @@ mod c {
             image: *const u8, image_len: usize, count: u64, out: *mut u8, out_len: usize, length: *mut usize, busy: *mut u64,
         ) -> u8;
         pub fn rithennaw_view(
+            image: *const u8, image_len: usize, observer: u32, out: *mut u8, out_len: usize, length: *mut usize,
+        ) -> u8;
+        pub fn rithennaw_sheet(
             image: *const u8, image_len: usize, observer: u32, out: *mut u8, out_len: usize, length: *mut usize,
         ) -> u8;
     }
@@ -53,6 +57,13 @@ fn view(image: &[u8], observer: u32, out: &mut [u8]) -> Answer {
     let mut length = 77;
     let number =
         unsafe { c::rithennaw_view(image.as_ptr(), image.len(), observer, out.as_mut_ptr(), out.len(), &mut length) };
+    Answer { number, length, busy: 0 }
+}
+
+fn sheet(image: &[u8], observer: u32, out: &mut [u8]) -> Answer {
+    let mut length = 77;
+    let number =
+        unsafe { c::rithennaw_sheet(image.as_ptr(), image.len(), observer, out.as_mut_ptr(), out.len(), &mut length) };
     Answer { number, length, busy: 0 }
 }
 
@@ -161,6 +172,9 @@ fn main() {
     // P5: B with the send's label 2. After 6 turns slot 5 is at place 2 with one message; the view for 0 has none.
     let p5_for_0 = sent(b(2), 6);
     let p5 = with_mail(sent(b(2), 6), 2);
+    // Each has the message in slot 5, but for the view of P5 for 0.
+    let p2_sheet = b"slot kind label spare pc mail\n0 1 0 0 1 0\n5 1 0 0 2 1\n";
+    let p5_sheet_for_0 = b"slot kind label spare pc mail\n0 1 0 0 1 0\n5 1 0 0 2 0\n";
 
     let slot_5 = (SLOT_5_AT + 2, &b0[SLOT_5_AT + 2..SLOT_5_AT + 2 + 37]);
     checks.same("record of slot 5 of B", record(&b0, 5), slot_5);
@@ -187,9 +201,15 @@ fn main() {
     checks.call("view of P5 for 2", ROOM, 0, &p5, 0, |out| view(&p5, 2, out));
     checks.call("view of P5 for 15", ROOM, 0, &p5, 0, |out| view(&p5, 15, out));
 
+    checks.call("sheet of P2 for 0", ROOM, 0, p2_sheet, 0, |out| sheet(&p2, 0, out));
+    checks.call("sheet of P2 for 0 into just enough", p2_sheet.len(), 0, p2_sheet, 0, |out| sheet(&p2, 0, out));
+    checks.call("sheet of P5 for 2", ROOM, 0, p2_sheet, 0, |out| sheet(&p5, 2, out));
+    checks.call("sheet of P5 for 0", ROOM, 0, p5_sheet_for_0, 0, |out| sheet(&p5, 0, out));
+
     // 1 and 2, ahead of the image.
     checks.call("view for 16", ROOM, 1, &[], 0, |out| view(&b0, 16, out));
     checks.call("view for 16 of no bytes", 0, 1, &[], 0, |out| view(&[], 16, out));
+    checks.call("sheet for 16 of no bytes", 0, 1, &[], 0, |out| sheet(&[], 16, out));
     checks.call("1,000,001 turns", ROOM, 2, &[], 0, |out| turns(&b0, 1_000_001, out));
     checks.call("1,000,001 turns of no bytes", 0, 2, &[], 0, |out| turns(&[], 1_000_001, out));
 
@@ -198,12 +218,14 @@ fn main() {
     checks.call("rewrite of B cut by a byte", ROOM, 3, &[], 0, |out| rewrite(cut, out));
     checks.call("turns of B cut by a byte", ROOM, 3, &[], 0, |out| turns(cut, 1, out));
     checks.call("view of B cut by a byte", ROOM, 3, &[], 0, |out| view(cut, 0, out));
+    checks.call("sheet of B cut by a byte", ROOM, 3, &[], 0, |out| sheet(cut, 0, out));
     checks.call("rewrite of no bytes", 0, 3, &[], 0, |out| rewrite(&[], out));
 
     // 13: a byte too few for the answer.
     checks.call("rewrite of B into a byte too few", B_LENGTH - 1, 13, &[], 0, |out| rewrite(&b0, out));
     checks.call("B after 1 turn into a byte too few", p2.len() - 1, 13, &[], 0, |out| turns(&b0, 1, out));
     checks.call("view of P5 for 0 into a byte too few", B_LENGTH - 1, 13, &[], 0, |out| view(&p5, 0, out));
+    checks.call("sheet of P2 into a byte too few", p2_sheet.len() - 1, 13, &[], 0, |out| sheet(&p2, 0, out));
 
     println!("b.rs: {} checks, {} failed", checks.made, checks.failed);
     if checks.failed != 0 {

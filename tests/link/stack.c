@@ -79,6 +79,11 @@ static unsigned view(void)
     return rithennaw_view(image, image_len, 7, out, sizeof out, &length);
 }
 
+static unsigned sheet(void)
+{
+    return rithennaw_sheet(image, image_len, 7, out, sizeof out, &length);
+}
+
 /* ---- the thread */
 
 static uint8_t *stack;
@@ -116,7 +121,7 @@ int main(void)
     static const struct {
         const char *name;
         unsigned (*call)(void);
-    } calls[] = {{"turns", turns}, {"view", view}, {"rewrite", rewrite}, {"record", record}};
+    } calls[] = {{"turns", turns}, {"view", view}, {"sheet", sheet}, {"rewrite", rewrite}, {"record", record}};
     void *memory;
     size_t i;
     int status = 0;
