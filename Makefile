@@ -68,7 +68,8 @@ rust-test: all ## test the Rust packages, and compare the monitor and slotsheet 
 differential: all ## the same comparison for a long run; SEEDS says how many seeds
 	@$(differential) --first 10000 --seeds $(SEEDS)
 
-examples: all ## install below a temporary prefix, test the C host by what is installed, and the sample day
+examples: all ## test the README's programs, the C host by what is installed below a temporary prefix, and the sample day
+	@tests/readme/run
 	@tests/host/run
 	@examples/day/run --check
 
