@@ -1,5 +1,6 @@
 -- What is claimed of the sheet and of what the program prints; proofs/Claims.antt inhabits each.
 use Prim.Native.Nat.{ℕ, _<_, _≤_}
+use mathlib.Core.Logic.{_≢_}
 use mathlib.Core.Path.{_≡_}
 use mathlib.Core.List.{List, [], _∷_}
 use lib.ListN.{length}
@@ -10,6 +11,11 @@ use Rattle.monitor.specs.Claims.{Accepted}
 use Rattle.monitor.specs.Examples.{b, receiver}
 use Rattle.sheet.specs.Text.{ascii}
 use Rattle.sheet.specs.Sheet.{sheetBytes, sheetAnswer, sheetOutput, printed}
+
+-- the sheet's call tells 0, or a number of the table other than 2. What is claimed of every call that writes, that the
+-- first number met is given and what it then writes, is monitor's
+abbrev pub SheetNumbersAreListed : Type 0
+SheetNumbersAreListed = (v : ℕ) (image out : List ℕ) → (sheetAnswer v image out .number ≤ 13) × (sheetAnswer v image out .number ≢ 2)
 
 -- an output of 318 bytes is long enough for every sheet
 abbrev pub SheetLength : Type 0
