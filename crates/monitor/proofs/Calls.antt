@@ -14,6 +14,7 @@ use Rattle.wire.proofs.Output.{take-overwrite, drop-overwrite, length-overwrite
 use Rattle.image.specs.Refusal.{_then_, unless}
 use Rattle.image.specs.Image.{imageNumber}
 use Rattle.image.proofs.Refusal.{then-stop, then-left, then-right, then-holds, unless-holds, unless-none}
+use Rattle.image.proofs.Image.{image-listed}
 use Rattle.monitor.specs.declared.Answer.{Answer}
 use Rattle.monitor.specs.Calls.{Call, callNumber, refusal, outputAnswer, callAnswer, callOutput}
 use Rattle.monitor.specs.Claims.{AcceptedExactly, WritesItsAnswer}
@@ -57,7 +58,7 @@ module _ (c : Call) (image out : List ℕ) where
   accepted-exactly = record { only = λ e. only (sym answer-number ∙ e); always = λ a i o. answer-number ∙ always a i o }
 
   -- the bytes that the call writes, none where it is refused
-  pub call-written : take (callAnswer c image out .length) (callOutput c image out) ≡ cond (eqb (callNumber c image out) 0) (c .bytes) []
+  call-written : take (callAnswer c image out .length) (callOutput c image out) ≡ cond (eqb (callNumber c image out) 0) (c .bytes) []
   unfolding callAnswer callOutput
   call-written = split (eqb (callNumber c image out) 0) (λ e. rw e (take-overwrite (c .bytes) out)) (λ e. rw e)
 
@@ -96,6 +97,14 @@ module _ (c : Call) (image out : List ℕ) where
       rw answer-number
       (then-holds P (c .argumentNumber) _ a (then-holds P (imageNumber image) _ i (unless-holds P (leb (length (c .bytes)) (length out)) 13 z o)))
 
+  -- of a call for an observer: 0, or a number of the table other than 2
+  pub observer-listed : (v : ℕ) → c .argumentNumber ≡ unless (leb v 15) 1 → (callAnswer c image out .number ≤ 13) × (callAnswer c image out .number ≢ 2)
+  observer-listed v e =
+      let i = image-listed image in
+      number-holds (λ x. (x ≤ 13) × (x ≢ 2))
+      (rw e (unless-holds (λ x. (x ≤ 13) × (x ≢ 2)) (leb v 15) 1 (omega arith, λ z. omega arith) (omega arith, λ z. omega arith)))
+      (omega (arith, i .most), i .not-2) (omega arith, λ z. omega arith) (omega arith, λ z. omega arith)
+
   -- ---- a call whose argument is beyond its limit
 
   pub call-beyond : (n : ℕ) → c .argumentNumber ≡ suc n → {r : Answer} → r ≡ refusal (suc n)
@@ -122,3 +131,17 @@ module _ (c : Call) (image out : List ℕ) where
     unfolding callAnswer callOutput callNumber
     call-accepted accepted {b} same counted w =
         rw (argument, accepted, ← same, ← counted, w .0, w .1) (split (leb (length b) (length out)) (λ e. rw e (refl, refl)) (λ e. rw e (refl, refl)))
+
+-- ---- the same call of two images that get the same number, with outputs of equal length
+
+module _ (c c′ : Call) (image image′ out out′ : List ℕ) (same : c ≡ c′) (number : imageNumber image ≡ imageNumber image′) (room : length out ≡ length out′) where
+  number-same : callNumber c image out ≡ callNumber c′ image′ out′
+  unfolding callNumber
+  number-same = rw (same, number, room)
+
+  pub answer-same : callAnswer c image out ≡ callAnswer c′ image′ out′
+  unfolding callAnswer
+  answer-same = rw (number-same, same)
+
+  pub written-same : take (callAnswer c image out .length) (callOutput c image out) ≡ take (callAnswer c′ image′ out′ .length) (callOutput c′ image′ out′)
+  written-same = call-written c image out ∙ rw (number-same, same) (sym (call-written c′ image′ out′))

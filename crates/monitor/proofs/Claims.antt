@@ -20,7 +20,7 @@ use Rattle.image.proofs.Image.{extent-none, extent-some, extent-told, extent-wi
 use Rattle.monitor.specs.Calls.{rewriteCall, turnsCall, viewCall}
 use Rattle.monitor.specs.Claims.{NumbersAreListed, FirstMetIsGiven, LimitsAreRefused, CallsAreAcceptedExactly, OthersAreAccepted, CallsWriteTheirAnswer, RecordIsItsPart}
 use Rattle.monitor.specs.Claims.{ImageLengths, ReadThenWrite, WriteThenRead, ViewIsAccepted, ViewFor15, Secrecy, EqualViewsAreEqualBytes}
-use Rattle.monitor.proofs.Calls.{first-met, accepted-exactly, output-accepted, writes-its-answer, number-holds}
+use Rattle.monitor.proofs.Calls.{first-met, accepted-exactly, output-accepted, writes-its-answer, number-holds, observer-listed}
 use Rattle.monitor.proofs.Secrecy as Secrecy
 use Rattle.monitor.proofs.Secrecy.{read-valid, rewritten, written-accepted, equal-bytes, equal-views}
 
@@ -33,9 +33,7 @@ numbers-are-listed image out =
       λ n. number-holds (turnsCall n image) image out (λ x. (x ≤ 13) × (x ≢ 1))
           (unless-holds (λ x. (x ≤ 13) × (x ≢ 1)) (leb n 1000000) 2 (omega arith, λ e. omega arith) (omega arith, λ e. omega arith))
           (omega (arith, i .most), i .not-1) (omega arith, λ e. omega arith) (omega arith, λ e. omega arith),
-      λ v. number-holds (viewCall v image) image out (λ x. (x ≤ 13) × (x ≢ 2))
-          (unless-holds (λ x. (x ≤ 13) × (x ≢ 2)) (leb v 15) 1 (omega arith, λ e. omega arith) (omega arith, λ e. omega arith))
-          (omega (arith, i .most), i .not-2) (omega arith, λ e. omega arith) (omega arith, λ e. omega arith),
+      λ v. observer-listed (viewCall v image) image out v refl,
     )
 
 pub first-met-is-given : FirstMetIsGiven

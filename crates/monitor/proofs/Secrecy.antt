@@ -16,9 +16,9 @@ use Rattle.machine.proofs.Machine.{turns-valid, view-valid, turns-add, turns-sa
 use Rattle.image.specs.Refusal.{unless}
 use Rattle.image.specs.Image.{stateOf, imageBytes}
 use Rattle.image.proofs.Image.{accepted-valid, image-back, image-bytes, image-accepted, image-forth}
-use Rattle.monitor.specs.Calls.{callNumber, callAnswer, turnsCall, turnsAnswer, TurnsPromise, viewBytes, viewCall, viewAnswer, viewOutput}
+use Rattle.monitor.specs.Calls.{turnsCall, turnsAnswer, TurnsPromise, viewBytes, viewCall, viewAnswer, viewOutput}
 use Rattle.monitor.specs.Claims.{Accepted, TurnCall, isAccepted, imageAfter, finalImage, turnsCarriedOut, KeptPromises, EqualViews}
-use Rattle.monitor.proofs.Calls.{accepted-exactly, call-written, writes-its-answer}
+use Rattle.monitor.proofs.Calls.{accepted-exactly, writes-its-answer, answer-same, written-same}
 
 -- ---- accepted images and valid states
 
@@ -56,24 +56,19 @@ module _ (v : ℕ) (seen : v ≤ 15) where
         ∙ view-shown image′ (e .right) out (omega arith)
 
     module _ (a : Accepted image) (a′ : Accepted image′) (e : viewBytes v image ≡ viewBytes v image′) where
-      number-same : (out out′ : List ℕ) → length out ≡ length out′ → callNumber (viewCall v image) image out ≡ callNumber (viewCall v image′) image′ out′
-      unfolding callNumber
-      number-same out out′ h = rw (a .number, a′ .number, e, h)
-
-      answer-same : (out out′ : List ℕ) → length out ≡ length out′ → viewAnswer v image out ≡ viewAnswer v image′ out′
-      unfolding callAnswer
-      answer-same out out′ h = rw (number-same out out′ h, e)
-
-      written-same : (out out′ : List ℕ) → length out ≡ length out′
-          → take (viewAnswer v image out .length) (viewOutput v image out) ≡ take (viewAnswer v image′ out′ .length) (viewOutput v image′ out′)
-      written-same out out′ h =
-          call-written (viewCall v image) image out ∙ rw (number-same out out′ h, e) (sym (call-written (viewCall v image′) image′ out′))
+      same : viewCall v image ≡ viewCall v image′
+      same = ap (λ (b : List ℕ). record { argumentNumber = unless (leb v 15) 1; bytes = b; busy = 0 }) e
 
       pub equal-views : EqualViews v image image′
       equal-views = record {
         left = a;
         right = a′;
-        shown = λ out out′ told told′ after after′ h p p′. rw (p .0, p .1, p′ .0, p′ .1) (answer-same out out′ h, written-same out out′ h);
+        shown = λ out out′ told told′ after after′ h p p′.
+            let number = a .number ∙ sym (a′ .number) in
+            let call = viewCall v image in
+            let call′ = viewCall v image′ in
+            rw (p .0, p .1, p′ .0, p′ .1)
+            (answer-same call call′ image image′ out out′ same number h, written-same call call′ image image′ out out′ same number h);
       }
 
 -- ---- a list of calls comes to its sum of turns

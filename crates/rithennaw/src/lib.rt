@@ -76,7 +76,7 @@ pub extern "C" fn rithennaw_sheet(
         × (now (length .exit) ≡ sheetAnswer observer (now (image .entry)) (now (out .entry)) .length)
         × (now (out .exit) ≡ sheetOutput observer (now (image .entry)) (now (out .entry))) ⌝ }
 {
-    let printed = sheet::write(image, observer, out);
-    *length = printed.length;
-    printed.number
+    let listed = sheet::write(image, observer, out);
+    *length = listed.length;
+    listed.number
 }

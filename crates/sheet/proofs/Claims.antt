@@ -1,31 +1,33 @@
 -- The claims of specs/Claims.antt hold.
-use Prim.Native.Nat.{_≤_}
-use mathlib.Core.Logic.{_≢_}
-use mathlib.Core.Path.{refl, ap}
-use native.Mathlib.Omega.{arith}
+use mathlib.Core.Path.{_≡_, refl, sym, ap, _∙_}
 use lib.Dec.{leb}
-use Rattle.image.proofs.Refusal.{unless-holds}
-use Rattle.image.proofs.Image.{image-listed}
-use Rattle.monitor.specs.Calls.{callNumber, callAnswer, callOutput}
-use Rattle.monitor.proofs.Calls.{number-holds}
-use Rattle.monitor.proofs.Secrecy.{states-same}
+use Rattle.machine.specs.State.{State}
+use Rattle.image.specs.Refusal.{unless}
+use Rattle.monitor.specs.Claims.{finalImage}
+use Rattle.monitor.proofs.Calls.{observer-listed, answer-same, written-same}
+use Rattle.monitor.proofs.Secrecy.{equal-bytes, states-same}
+use Rattle.monitor.proofs.Claims.{secrecy}
 use Rattle.sheet.specs.Sheet.{sheetText, sheetCall}
-use Rattle.sheet.specs.Claims.{SheetNumbersAreListed, SheetLength, SheetsFollowViews}
+use Rattle.sheet.specs.Claims.{SheetNumbersAreListed, SheetLength, SheetsFollowViews, SheetSecrecy}
 use Rattle.sheet.proofs.Sheet.{sheet-fits}
 
 pub sheet-numbers-are-listed : SheetNumbersAreListed
-sheet-numbers-are-listed v image out =
-    let i = image-listed image in
-    number-holds (sheetCall v image) image out (λ x. (x ≤ 13) × (x ≢ 2))
-    (unless-holds (λ x. (x ≤ 13) × (x ≢ 2)) (leb v 15) 1 (omega arith, λ e. omega arith) (omega arith, λ e. omega arith))
-    (omega (arith, i .most), i .not-2)
-    (omega arith, λ e. omega arith)
-    (omega arith, λ e. omega arith)
+sheet-numbers-are-listed v image out = observer-listed (sheetCall v image) image out v refl
 
 pub sheets-fit : SheetLength
 sheets-fit v image a = sheet-fits v image (a .bytes) (a .number)
 
 pub sheets-follow-views : SheetsFollowViews
-unfolding callNumber callAnswer callOutput
-sheets-follow-views v image image′ out a a′ e =
-    rw (a .number, a′ .number, ap sheetText (states-same v image image′ a a′ e)) (refl, refl)
+sheets-follow-views v image image′ a a′ e out out′ h =
+    let call = sheetCall v image in
+    let call′ = sheetCall v image′ in
+    let same : call ≡ call′
+    = ap (λ (s : State). record { argumentNumber = unless (leb v 15) 1; bytes = sheetText s; busy = 0 }) (states-same v image image′ a a′ e) in
+    let number = a .number ∙ sym (a′ .number) in
+    (answer-same call call′ image image′ out out′ same number h, written-same call call′ image image′ out out′ same number h)
+
+pub sheet-secrecy : SheetSecrecy
+sheet-secrecy v seen image image′ a a′ e calls calls′ p p′ n =
+    let ends = secrecy v seen image image′ a a′ e calls calls′ p p′ n in
+    sheets-follow-views v (finalImage calls image) (finalImage calls′ image′) (ends .left) (ends .right)
+    (equal-bytes v seen (finalImage calls image) (finalImage calls′ image′) ends)

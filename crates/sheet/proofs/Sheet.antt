@@ -1,10 +1,8 @@
 -- Laws of the sheet: that of the table is that of the view, and how long it is at most.
-use Prim.Native.Nat.{ℕ, _+_, _/_, _<_, _≤_}
-use mathlib.Core.Logic.{dite}
+use Prim.Native.Nat.{ℕ, _+_, _<_, _≤_}
 use mathlib.Core.Path.{_≡_, sym, ap}
 use mathlib.Core.List.{List, [], _∷_, _++_}
 use native.Mathlib.Omega.{arith}
-use native.Mathlib.Decide.{decLt}
 use lib.ListN.{length, length-append, List·getD-map}
 use Rattle.wire.specs.Lists.{tabulate, Bytes}
 use Rattle.wire.specs.Items.{encodeItems}
@@ -24,7 +22,7 @@ use Rattle.table.specs.Table.{slotsIn}
 use Rattle.sheet.specs.Text.{ascii, decimal, spaced, lineRest}
 use Rattle.sheet.specs.Sheet.{heading, slotLine, slotLines, sheetText, sheetBytes, refusalLine}
 use Rattle.sheet.specs.Shown.{shownLine, shownLines, shownSheet}
-use Rattle.sheet.proofs.Text.{length-digit, length-more, length-spaced, length-line}
+use Rattle.sheet.proofs.Text.{decimal-width, length-spaced, length-line}
 
 -- ---- the table's sheet
 
@@ -36,16 +34,6 @@ sheet-shown v words s loaded =
     (λ i k. slotLine k (sym (List·getD-map (viewSlot (λ l. flows l v)) (s .slots) k unused) i)))
 
 -- ---- how long it is
-
-below-100 : (x : ℕ) → x < 100 → length (decimal x) ≤ 2
-below-100 x h =
-    dite (decLt x 10) (λ l. omega (arith, length-digit x l))
-    (λ l. let big : 10 ≤ x = omega arith in omega (arith, length-more x big, length-digit (x / 10) (omega arith)))
-
-below-1000 : (x : ℕ) → x < 1000 → length (decimal x) ≤ 3
-below-1000 x h =
-    dite (decLt x 10) (λ l. omega (arith, length-digit x l))
-    (λ l. let big : 10 ≤ x = omega arith in omega (arith, length-more x big, below-100 (x / 10) (omega arith)))
 
 numbers-more : (x : ℕ) (xs : List ℕ) → length (encodeItems spaced (x ∷ xs)) ≡ 1 + length (decimal x) + length (encodeItems spaced xs)
 unfolding encodeItems
@@ -77,12 +65,12 @@ slot-line-length n s (used t) h ok =
     omega (
       arith,
       line-length s (t .kind) (t .label) (t .spare) (t .pc) (length (t .mailbox)),
-      below-100 s (omega (arith, f .spare)),
-      length-digit (t .kind) (omega (arith, f .kind-high)),
-      below-100 (t .label) (omega (arith, f .label)),
-      below-100 (t .spare) (omega (arith, f .spare)),
-      below-1000 (t .pc) (omega (arith, f .pc)),
-      below-100 (length (t .mailbox)) (omega (arith, mailbox-64 (t .mailbox) (f .mailbox))),
+      decimal-width 1 s (omega (arith, f .spare)),
+      decimal-width 0 (t .kind) (omega (arith, f .kind-high)),
+      decimal-width 1 (t .label) (omega (arith, f .label)),
+      decimal-width 1 (t .spare) (omega (arith, f .spare)),
+      decimal-width 2 (t .pc) (omega (arith, f .pc)),
+      decimal-width 1 (length (t .mailbox)) (omega (arith, mailbox-64 (t .mailbox) (f .mailbox))),
     )
 
 sheet-length : (s : State) → Valid s → length (sheetText s) ≤ 318
@@ -104,4 +92,4 @@ sheet-fits v image bytes accepted =
 
 pub refusal-length : (n : ℕ) → n < 1000 → length (refusalLine n) ≤ 12
 unfolding refusalLine ascii tabulate encodeItems
-refusal-length n h = omega (arith, length-line (n ∷ []), numbers-more n [], below-1000 n h)
+refusal-length n h = omega (arith, length-line (n ∷ []), numbers-more n [], decimal-width 2 n h)

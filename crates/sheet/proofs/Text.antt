@@ -1,8 +1,10 @@
 -- Laws of text: the digits of a number one by one, how many there are, and the lines made of numbers.
-use Prim.Native.Nat.{ℕ, zero, suc, _+_, _/_, _%_, _<_, _≤_}
+use Prim.Native.Nat.{ℕ, zero, suc, _+_, _/_, _%_, _^_, _<_, _≤_}
+use mathlib.Core.Logic.{dite}
 use mathlib.Core.Path.{_≡_, refl, sym, ap, _∙_}
 use mathlib.Core.List.{List, [], _∷_, _++_}
-use native.Mathlib.Nat.{not-suc-le-zero}
+use native.Mathlib.Nat.{not-suc-le-zero, pow-suc}
+use native.Mathlib.Decide.{decLt}
 use native.Mathlib.Omega.{arith}
 use borrow.Author.Tests.{lt-ltb, le-ltb, ltb-false}
 use lib.Dec.{ltb}
@@ -39,6 +41,14 @@ length-digit x h = ap length (decimal-digit x h)
 
 pub length-more : (x : ℕ) → 10 ≤ x → length (decimal x) ≡ length (decimal (x / 10)) + 1
 length-more x h = ap length (decimal-more x h) ∙ length-append (decimal (x / 10)) ((48 + x % 10) ∷ [])
+
+-- a number below 10 to the power k + 1 has at most k + 1 digits
+pub decimal-width : (k x : ℕ) → x < 10 ^ suc k → length (decimal x) ≤ suc k
+decimal-width zero x h = omega (arith, length-digit x h)
+decimal-width (suc k) x h =
+    let h′ = rw pow-suc at h in
+    dite (decLt x 10) (λ l. omega (arith, length-digit x l))
+    (λ l. let big : 10 ≤ x = omega arith in omega (arith, length-more x big, decimal-width k (x / 10) (omega (arith, h′))))
 
 -- ---- writing one: its only digit, and its last behind the others
 

@@ -3,11 +3,11 @@ use Prim.Native.Nat.{ℕ, _<_, _≤_}
 use mathlib.Core.Logic.{_≢_}
 use mathlib.Core.Path.{_≡_}
 use mathlib.Core.List.{List, [], _∷_}
-use lib.ListN.{length}
+use lib.ListN.{length, take}
 use Rattle.machine.specs.Machine.{turns}
 use Rattle.image.specs.Image.{imageBytes}
 use Rattle.monitor.specs.Calls.{viewBytes}
-use Rattle.monitor.specs.Claims.{Accepted}
+use Rattle.monitor.specs.Claims.{Accepted, TurnCall, finalImage, turnsCarriedOut, KeptPromises}
 use Rattle.monitor.specs.Examples.{b, receiver}
 use Rattle.sheet.specs.Text.{ascii}
 use Rattle.sheet.specs.Sheet.{sheetBytes, sheetAnswer, sheetOutput, printed}
@@ -21,11 +21,24 @@ SheetNumbersAreListed = (v : ℕ) (image out : List ℕ) → (sheetAnswer v imag
 abbrev pub SheetLength : Type 0
 SheetLength = (v : ℕ) (image : List ℕ) → Accepted image → length (sheetBytes v image) ≤ 318
 
--- a sheet tells no more than the view: of images whose views for v are the same bytes, the call tells and writes the same
+-- of two images the sheet's call for v, given outputs of equal length, tells the same and writes the same bytes
+abbrev pub EqualSheets : ℕ → List ℕ → List ℕ → Type 0
+EqualSheets v image image′ =
+    (out out′ : List ℕ) → length out ≡ length out′
+    → (sheetAnswer v image out ≡ sheetAnswer v image′ out′)
+    × (take (sheetAnswer v image out .length) (sheetOutput v image out) ≡ take (sheetAnswer v image′ out′ .length) (sheetOutput v image′ out′))
+
+-- a sheet tells no more than the view
 abbrev pub SheetsFollowViews : Type 0
-SheetsFollowViews =
-    (v : ℕ) (image image′ out : List ℕ) → Accepted image → Accepted image′ → viewBytes v image ≡ viewBytes v image′
-    → (sheetAnswer v image out ≡ sheetAnswer v image′ out) × (sheetOutput v image out ≡ sheetOutput v image′ out)
+SheetsFollowViews = (v : ℕ) (image image′ : List ℕ) → Accepted image → Accepted image′ → viewBytes v image ≡ viewBytes v image′ → EqualSheets v image image′
+
+-- the secrecy rule for sheets: monitor's `Secrecy`, with the sheet that the observer is shown in place of the view
+abbrev pub SheetSecrecy : Type 0
+SheetSecrecy =
+    (v : ℕ) → v ≤ 15
+    → (image image′ : List ℕ) → Accepted image → Accepted image′ → viewBytes v image ≡ viewBytes v image′
+    → (calls calls′ : List TurnCall) → KeptPromises calls image → KeptPromises calls′ image′ → turnsCarriedOut calls ≡ turnsCarriedOut calls′
+    → EqualSheets v (finalImage calls image) (finalImage calls′ image′)
 
 -- rows of what the program prints
 pub record Prints : Type 0 where

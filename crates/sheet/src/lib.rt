@@ -115,6 +115,9 @@ fn put_lines(out: &mut [u8], table: &[u32; 3328], observer: u8) -> usize
     at
 }
 
+// The length of the heading, line feed included.
+const HEADING_LENGTH: usize = 30;
+
 // Writes the heading and the lines: how many bytes.
 fn put_sheet(out: &mut [u8], table: &[u32; 3328], observer: u8) -> usize
     requires { ⌜ length (shownSheet observer (now table)) ≤ length (now out) ⌝ }
@@ -122,7 +125,7 @@ fn put_sheet(out: &mut [u8], table: &[u32; 3328], observer: u8) -> usize
         × (now (out .exit) ≡ overwrite (shownSheet observer (now (table .entry))) (now (out .entry))) ⌝ }
 {
     wire::copy(out, b"slot kind label spare pc mail\n");
-    30 + put_lines(&mut out[30..], table, observer)
+    HEADING_LENGTH + put_lines(&mut out[HEADING_LENGTH..], table, observer)
 }
 
 // Ends a call whose image is accepted: writes the sheet of the table's tasks as the observer sees them, or tells 13 where
@@ -165,13 +168,16 @@ pub fn write(image: &[u8], observer: u32, out: &mut [u8]) -> monitor::Answer
 
 // ---- what the program prints
 
+// The length of the word `refused`.
+const WORD_LENGTH: usize = 7;
+
 // Writes the line that tells a refusal: how many bytes.
 fn put_refusal(out: &mut [u8], number: u8) -> usize
     requires { ⌜ length (refusalLine number) ≤ length (now out) ⌝ }
     ensures { λ r. ⌜ (r ≡ length (refusalLine number)) × (now (out .exit) ≡ overwrite (refusalLine number) (now (out .entry))) ⌝ }
 {
     wire::copy(out, b"refused");
-    7 + put_line_rest(&mut out[7..], &[number as u32])
+    WORD_LENGTH + put_line_rest(&mut out[WORD_LENGTH..], &[number as u32])
 }
 
 // Writes all that the program prints for its standard input, an observer byte and then an image: how many bytes.
