@@ -15,7 +15,7 @@ use denote.Triple.Entry.{Args, Res}
 use denote.Triple.Spec.{Meets}
 use denote.Triple.Clauses.{Ended, AtExit, closing}
 use Rattle.monitor.specs.Calls.{recordAnswer, extentAnswer, rewriteAnswer, rewriteOutput, turnsAnswer, turnsOutput, TurnsPromise, ViewPromise}
-use Rattle.monitor.specs.Claims.{TurnCall, imageAfter, KeptPromises}
+use Rattle.monitor.specs.CallList.{TurnCall, imageAfter, KeptPromises}
 use Rattle.monitor.proofs.record as Record
 use Rattle.monitor.proofs.record.Symbol as RecordCode
 use Rattle.monitor.proofs.record.Met as RecordMet

@@ -17,7 +17,8 @@ use Rattle.image.specs.Refusal.{unless}
 use Rattle.image.specs.Image.{stateOf, imageBytes}
 use Rattle.image.proofs.Image.{accepted-valid, image-back, image-bytes, image-accepted, image-forth}
 use Rattle.monitor.specs.Calls.{turnsCall, turnsAnswer, TurnsPromise, viewBytes, viewCall, viewAnswer, viewOutput}
-use Rattle.monitor.specs.Claims.{Accepted, TurnCall, isAccepted, imageAfter, finalImage, turnsCarriedOut, KeptPromises, EqualViews}
+use Rattle.monitor.specs.CallList.{TurnCall, isAccepted, imageAfter, finalImage, turnsCarriedOut, KeptPromises}
+use Rattle.monitor.specs.Claims.{Accepted, EqualViews}
 use Rattle.monitor.proofs.Calls.{accepted-exactly, writes-its-answer, answer-same, written-same}
 
 -- ---- accepted images and valid states

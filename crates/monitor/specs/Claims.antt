@@ -2,9 +2,8 @@
 use Prim.Native.Nat.{ℕ, _+_, _<_, _≤_}
 use mathlib.Core.Logic.{_≢_}
 use mathlib.Core.Path.{_≡_}
-use mathlib.Core.Bool.{Bool, cond}
-use mathlib.Core.List.{List, [], _∷_}
-use lib.Dec.{leb, eqb}
+use mathlib.Core.List.{List, []}
+use lib.Dec.{leb}
 use lib.ListN.{length, take, drop}
 use Rattle.wire.specs.Lists.{Bytes}
 use Rattle.wire.specs.Output.{overwrite}
@@ -16,7 +15,8 @@ use Rattle.image.specs.declared.Extent.{Extent}
 use Rattle.image.specs.Image.{imageNumber, stateOf, imageBytes, recordStart}
 use Rattle.monitor.specs.declared.Answer.{Answer}
 use Rattle.monitor.specs.Calls.{recordAnswer, extentAnswer, Call, callAnswer, callOutput, rewriteAnswer, rewriteOutput}
-use Rattle.monitor.specs.Calls.{turnsAnswer, TurnsPromise, viewBytes, viewAnswer, ViewPromise}
+use Rattle.monitor.specs.Calls.{turnsAnswer, viewBytes, viewAnswer, ViewPromise}
+use Rattle.monitor.specs.CallList.{TurnCall, finalImage, turnsCarriedOut, KeptPromises}
 
 -- an accepted image: bytes whose number is 0
 pub record Accepted (image : List ℕ) : Type 0 where
@@ -118,36 +118,6 @@ abbrev pub ViewFor15 : Type 0
 ViewFor15 = (image : List ℕ) → Accepted image → viewBytes 15 image ≡ image
 
 -- ---- demand 3: the secrecy rule
-
--- a turn call as it went: its n and its output, what it told, and what its output held afterwards
-pub record TurnCall : Type 0 where
-  pub n : ℕ
-  pub out : List ℕ
-  pub told : Answer
-  pub after : List ℕ
-
-abbrev pub isAccepted : TurnCall → Bool
-isAccepted c = eqb (c .told .number) 0
-
--- "The image that an accepted call writes is the next call's image; a refused call carries out no turn and leaves the
--- image as it was."
-abbrev pub imageAfter : TurnCall → List ℕ → List ℕ
-imageAfter c image = cond (isAccepted c) (take (c .told .length) (c .after)) image
-
--- the image that a list ends with
-abbrev pub finalImage : List TurnCall → List ℕ → List ℕ
-finalImage [] image = image
-finalImage (c ∷ cs) image = finalImage cs (imageAfter c image)
-
--- "the sum of n over the accepted turn calls"
-abbrev pub turnsCarriedOut : List TurnCall → ℕ
-turnsCarriedOut [] = 0
-turnsCarriedOut (c ∷ cs) = cond (isAccepted c) (c .n) 0 + turnsCarriedOut cs
-
--- all that is known of how the calls went: each kept the promise of `monitor::turns` for the image that it was given
-abbrev pub KeptPromises : List TurnCall → List ℕ → Type 0
-KeptPromises [] image = Unit {0}
-KeptPromises (c ∷ cs) image = TurnsPromise (c .n) image (c .out) (c .told) (c .after) × KeptPromises cs (imageAfter c image)
 
 -- both images "are accepted, and their views for v are equal: the view call for v, given outputs of equal length, tells
 -- the same number and the same length for both and writes the same bytes."

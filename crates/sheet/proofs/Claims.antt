@@ -3,7 +3,7 @@ use mathlib.Core.Path.{_≡_, refl, sym, ap, _∙_}
 use lib.Dec.{leb}
 use Rattle.machine.specs.State.{State}
 use Rattle.image.specs.Refusal.{unless}
-use Rattle.monitor.specs.Claims.{finalImage}
+use Rattle.monitor.specs.CallList.{finalImage}
 use Rattle.monitor.proofs.Calls.{observer-listed, answer-same, written-same}
 use Rattle.monitor.proofs.Secrecy.{equal-bytes, states-same}
 use Rattle.monitor.proofs.Claims.{secrecy}

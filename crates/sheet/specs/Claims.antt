@@ -7,7 +7,8 @@ use lib.ListN.{length, take}
 use Rattle.machine.specs.Machine.{turns}
 use Rattle.image.specs.Image.{imageBytes}
 use Rattle.monitor.specs.Calls.{viewBytes}
-use Rattle.monitor.specs.Claims.{Accepted, TurnCall, finalImage, turnsCarriedOut, KeptPromises}
+use Rattle.monitor.specs.CallList.{TurnCall, finalImage, turnsCarriedOut, KeptPromises}
+use Rattle.monitor.specs.Claims.{Accepted}
 use Rattle.monitor.specs.Examples.{b, receiver}
 use Rattle.sheet.specs.Text.{ascii}
 use Rattle.sheet.specs.Sheet.{sheetBytes, sheetAnswer, sheetOutput, printed}
