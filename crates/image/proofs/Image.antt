@@ -1,6 +1,6 @@
 -- The round trips of an image: accepted bytes give a valid state that is written as they were, and a valid state's
 -- bytes are accepted and give it back; the lengths of an image; the part of a record.
-use Prim.Native.Nat.{ℕ, suc, _+_, _-_, _≤_}
+use Prim.Native.Nat.{ℕ, suc, _+_, _-_, _≤_, min}
 use mathlib.Core.Logic.{_≢_}
 use mathlib.Core.Path.{_≡_, refl, sym, ap, ap₂, _∙_}
 use mathlib.Core.Bool.{true, _&&_, and-false}
@@ -331,6 +331,9 @@ extent-within b s =
     split (eqb (length (recordPart b s)) 0)
     (λ e. rw (extent-none b s (eqb-true (length (recordPart b s)) 0 e)) (omega arith))
     (λ e. let h = eqb-false (length (recordPart b s)) 0 e in rw (extent-some b s h) (record-within b s h))
+
+pub extent-begins : (b : List ℕ) (s : ℕ) → min (recordExtent b s .start) (length b) ≡ recordExtent b s .start
+extent-begins b s = omega (arith, extent-within b s)
 
 -- its start and length by the bytes from its slot on and the record at their front
 module _ (b : List ℕ) (s : ℕ) {rest part : List ℕ} (from : rest ≡ fromSlot b s) (front : part ≡ recordOf rest) where

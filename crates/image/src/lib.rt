@@ -1,6 +1,8 @@
 // The image of all tasks: the number that refuses it, its parts, and each slot's record as the part that holds it.
 ghost use Prim.Native.Nat.{_<_, max};
 ghost use mathlib.Core.Path.{_≡_};
+ghost use denote.Ref.{ptr};
+ghost use Rattle.wire.specs.Slices.{offsetBy};
 ghost use Rattle.machine.specs.Valid.{isProgramLength, mailInRange, fieldsInRange, sparesUnused};
 ghost use Rattle.image.specs.Refusal.{_then_, unless};
 ghost use Rattle.image.specs.Record.{taskOf, slotOf, recordNumber};
@@ -340,14 +342,7 @@ fn from_slot(image: &[u8], slot: usize) -> &[u8]
     }
 }
 
-// The record of a slot as the part of the image that holds it: empty for an unused slot, a slot above 15 and a refused image.
-pub fn record(image: &[u8], slot: usize) -> &[u8]
-    ensures { λ r. ⌜ now r ≡ recordPart (now (image .entry)) slot ⌝ }
-{
-    front_record(from_slot(image, slot))
-}
-
-// Where that part stands: start and length both 0 where it is empty.
+// Where the record of a slot stands: start and length both 0 for an unused slot, a slot above 15 and a refused image.
 pub fn record_extent(image: &[u8], slot: usize) -> Extent
     ensures { λ r. ⌜ r ≡ recordExtent (now (image .entry)) slot ⌝ }
 {
@@ -364,4 +359,13 @@ pub fn record_extent(image: &[u8], slot: usize) -> Extent
             length: length,
         }
     }
+}
+
+// That record, as the part of the image that begins and ends there.
+pub fn record(image: &[u8], slot: usize) -> &[u8]
+    ensures { λ r. ⌜ (now r ≡ recordPart (now (image .entry)) slot)
+        × (ptr r ≡ offsetBy (recordExtent (now (image .entry)) slot .start) (ptr (image .entry))) ⌝ }
+{
+    let extent = record_extent(image, slot);
+    wire::take(wire::drop(image, extent.start), extent.length)
 }

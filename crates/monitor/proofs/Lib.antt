@@ -4,4 +4,5 @@ pub mod Pipeline
 pub mod Secrecy
 pub mod Claims
 pub mod Examples
+pub mod Keeps
 pub mod Promises

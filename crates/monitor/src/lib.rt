@@ -1,7 +1,9 @@
 // The monitor's calls. Each takes any bytes and refuses what it cannot take; what the calls mean and what is claimed of
 // them stands in specs/.
 ghost use mathlib.Core.Path.{_≡_};
+ghost use denote.Ref.{ptr};
 ghost use Rattle.wire.specs.Output.{written};
+ghost use Rattle.wire.specs.Slices.{offsetBy};
 ghost use Rattle.snapshot.specs.Writing.{snapshotBytes};
 ghost use Rattle.monitor.specs.Calls.{recordAnswer, extentAnswer, outputAnswer, refusal};
 ghost use Rattle.monitor.specs.Calls.{rewriteAnswer, rewriteOutput, turnsAnswer, turnsOutput, viewAnswer, viewOutput};
@@ -16,7 +18,8 @@ pub struct Answer {
 // The record of a slot, as the part of the image that holds it: no bytes for an unused slot, a slot above 15 or a refused
 // image.
 pub fn record(image: &[u8], slot: u32) -> &[u8]
-    ensures { λ r. ⌜ now r ≡ recordAnswer (now (image .entry)) slot ⌝ }
+    ensures { λ r. ⌜ (now r ≡ recordAnswer (now (image .entry)) slot)
+        × (ptr r ≡ offsetBy (extentAnswer (now (image .entry)) slot .start) (ptr (image .entry))) ⌝ }
 {
     image::record(image, slot as usize)
 }

@@ -3,3 +3,4 @@ pub mod Lists
 pub mod Numbers
 pub mod Output
 pub mod Items
+pub mod Slices

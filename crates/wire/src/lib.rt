@@ -1,11 +1,13 @@
 // Bytes: numbers read from the front of a part and written at the front of one. Definitions in specs/ and laws in
 // proofs/ are cited by every other crate.
-ghost use Prim.Native.Nat.{_<_};
+ghost use Prim.Native.Nat.{_<_, min};
 ghost use mathlib.Core.Path.{_≡_};
 ghost use mathlib.Core.List.{[], _∷_};
-ghost use lib.ListN.{getD, take, drop};
+ghost use denote.Ref.{ptr};
+ghost use lib.ListN.{length, getD, take, drop};
 ghost use Rattle.wire.specs.Numbers.{decodeNumber, encodeNumber};
 ghost use Rattle.wire.specs.Output.{written};
+ghost use Rattle.wire.specs.Slices.{offsetBy};
 
 // Byte i of s, and 0 past its end.
 pub fn byte_at(s: &[u8], i: usize) -> u8
@@ -16,14 +18,15 @@ pub fn byte_at(s: &[u8], i: usize) -> u8
 
 // The first n bytes of s, or all of it where it has fewer.
 pub fn take(s: &[u8], n: usize) -> &[u8]
-    ensures { λ r. ⌜ now r ≡ take n (now (s .entry)) ⌝ }
+    ensures { λ r. ⌜ (now r ≡ take n (now (s .entry))) × (ptr r ≡ ptr (s .entry)) ⌝ }
 {
     if n <= s.len() { &s[..n] } else { s }
 }
 
 // The bytes of s behind its first n, none where it has no more.
 pub fn drop(s: &[u8], n: usize) -> &[u8]
-    ensures { λ r. ⌜ now r ≡ drop n (now (s .entry)) ⌝ }
+    ensures { λ r. ⌜ (now r ≡ drop n (now (s .entry)))
+        × (ptr r ≡ offsetBy (min n (length (now (s .entry)))) (ptr (s .entry))) ⌝ }
 {
     let end = s.len();
     if n <= end { &s[n..] } else { &s[end..] }

@@ -10,7 +10,7 @@ returns c =
       c .before .before .before .byte-at2 .ensures,
       c .before .before .byte-at3 .ensures,
       c .decode-u16 .ensures .0,
-      c .before .drop .ensures,
+      c .before .drop .ensures .0,
     )
 
 pub fields-in-range-spec : {M : Type 1} → statement M

@@ -11,7 +11,7 @@ returns c =
 
 returns-2 : tie.Need-returns-2
 unfolding fromSlot
-returns-2 c = rw (← c .before .before .number .ensures, c .before .if1 .left) (c .take .ensures)
+returns-2 c = rw (← c .before .before .number .ensures, c .before .if1 .left) (c .take .ensures .0)
 
 pub from-slot-spec : {M : Type 1} → statement M
 from-slot-spec = tie.close (tie.spec (λ c κs. tt) (λ c κs. tt) (λ c κs. tt) (λ c κs. tt) returns returns-2)

@@ -9,4 +9,4 @@ front-record-spec =
     (λ c κs. tt)
     (λ c κs. tt)
     (λ c κs. tt)
-    (λ c. rw (← c .before .record-length .ensures .0, ← c .before .before .drop .ensures) (c .take .ensures)))
+    (λ c. rw (← c .before .record-length .ensures .0, ← c .before .before .drop .ensures .0) (c .take .ensures .0)))

@@ -9,4 +9,4 @@ program-spec =
     (λ c κs. tt)
     (λ c κs. tt)
     (λ c κs. tt)
-    (λ c. rw (← c .before .program-length .ensures .0, ← c .before .before .drop .ensures) (c .take .ensures)))
+    (λ c. rw (← c .before .program-length .ensures .0, ← c .before .before .drop .ensures .0) (c .take .ensures .0)))

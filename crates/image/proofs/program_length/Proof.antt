@@ -5,4 +5,4 @@ use Rattle.image.proofs.program_length.Tie as tie
 
 pub program-length-spec : {M : Type 1} → statement M
 unfolding programLength
-program-length-spec = tie.close (tie.spec (λ c κs. tt) (λ c κs. tt) (λ c. rw (← c .before .drop .ensures) (c .decode-u16 .ensures)))
+program-length-spec = tie.close (tie.spec (λ c κs. tt) (λ c κs. tt) (λ c. rw (← c .before .drop .ensures .0) (c .decode-u16 .ensures)))

@@ -8,4 +8,4 @@ pub slots-part-spec : {M : Type 1} → statement M
 unfolding slotsPart
 slots-part-spec =
     tie.close
-    (tie.spec (λ c κs. tt) (λ c. omega arith) (λ c. omega arith) (λ c κs. tt) (λ c. rw (← c .before .program-length .ensures .0) (c .drop .ensures)))
+    (tie.spec (λ c κs. tt) (λ c. omega arith) (λ c. omega arith) (λ c κs. tt) (λ c. rw (← c .before .program-length .ensures .0) (c .drop .ensures .0)))

@@ -29,7 +29,7 @@ loop-again c =
     let rest = c .before .before .before .before .before .drop2 in
     let message = c .before .before .before .before .before .before .drop in
     let m : Message = record { label = label .result; sender = sender .result; value = value .result } in
-    let e : m ≡ messageOf (drop (6 * h .i) (now (a .mailbox))) = rw (label .ensures, sender .ensures, value .ensures, rest .ensures, message .ensures) in (
+    let e : m ≡ messageOf (drop (6 * h .i) (now (a .mailbox))) = rw (label .ensures, sender .ensures, value .ensures, rest .ensures .0, message .ensures .0) in (
       omega arith,
       c .append .ensures ∙ ap (change (a .slot) (withMessage m)) (h .inv .1)
           ∙ messages-next (a .slot) (h .i) m (now (a .mailbox)) (slotsIn (now (a .table))) e,

@@ -24,7 +24,7 @@ loop-again c =
     let h = c .before .before .before .before .before .loop in
     let a = c .before .before .before .before .before .before .before .args in
     let x = c .before .before .decode-u32 .result in
-    let e : x ≡ decodeNumber 4 (drop (4 * h .a) (now (a .registers))) = rw (c .before .before .before .drop .ensures) at (c .before .before .decode-u32 .ensures) in
+    let e : x ≡ decodeNumber 4 (drop (4 * h .a) (now (a .registers))) = rw (c .before .before .before .drop .ensures .0) at (c .before .before .decode-u32 .ensures) in
     (omega arith, c .set-register .ensures ∙ ap (change (a .slot) (withRegister (h .a) x)) (h .inv .1) ∙ registers-next (a .slot) (h .a) x (now (a .registers)) (slotsIn (now (a .table))) e)
 
 returns : tie.Need-returns Inv-loop μ-loop

@@ -1,6 +1,6 @@
 -- `wire::take` meets its contract: a list no longer than n is its own first n.
 use borrow.Author.Needs.{needs}
-use mathlib.Core.Path.{sym}
+use mathlib.Core.Path.{sym, refl}
 use native.Mathlib.Omega.{arith}
 use denote.Ref.{now}
 use lib.Seq.{take-all, length-take-le}
@@ -13,4 +13,4 @@ take-spec =
     (tie.spec
     (λ c. let a = c .before .before .args in sym (length-take-le (a .n) (now (a .s)) (omega arith)))
     (λ c. search needs)
-    (λ c. let a = c .before .args in sym (take-all (a .n) (now (a .s)) (omega arith))))
+    (λ c. let a = c .before .args in (sym (take-all (a .n) (now (a .s)) (omega arith)), refl)))
