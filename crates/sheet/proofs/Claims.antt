@@ -18,12 +18,13 @@ pub sheets-fit : SheetLength
 sheets-fit v image a = sheet-fits v image (a .bytes) (a .number)
 
 pub sheets-follow-views : SheetsFollowViews
-sheets-follow-views v image image′ a a′ e out out′ h =
+sheets-follow-views v image image′ a a′ e out out′ told told′ after after′ h p p′ =
     let call = sheetCall v image in
     let call′ = sheetCall v image′ in
     let same : call ≡ call′
     = ap (λ (s : State). record { argumentNumber = unless (leb v 15) 1; bytes = sheetText s; busy = 0 }) (states-same v image image′ a a′ e) in
     let number = a .number ∙ sym (a′ .number) in
+    rw (p .0, p .1, p′ .0, p′ .1)
     (answer-same call call′ image image′ out out′ same number h, written-same call call′ image image′ out out′ same number h)
 
 pub sheet-secrecy : SheetSecrecy

@@ -4,8 +4,8 @@ use mathlib.Core.Path.{_≡_}
 use denote.Ref.{now}
 use lib.ListN.{length}
 use Rattle.wire.specs.Output.{overwrite}
-use Rattle.monitor.proofs.Promises.{Keeps}
-use Rattle.sheet.specs.Sheet.{sheetAnswer, sheetOutput, printed}
+use Rattle.monitor.proofs.Keeps.{Keeps, imageOf, observerOf, outputOf, soleOutputOf}
+use Rattle.sheet.specs.Sheet.{SheetPromise, printed}
 use Rattle.sheet.proofs.write as Write
 use Rattle.sheet.proofs.write.Symbol as WriteCode
 use Rattle.sheet.proofs.write.Met as WriteMet
@@ -13,13 +13,15 @@ use Rattle.sheet.proofs.print as Print
 use Rattle.sheet.proofs.print.Symbol as PrintCode
 use Rattle.sheet.proofs.print.Met as PrintMet
 
+-- a are the arguments, r is the result, and e are the arguments at the end
 module _ {M : Type 1} where
-  -- a: the image, the label, the output
   pub write-keeps : Keeps M Write.ended WriteCode.routine
-      (λ κs a r e. (r ≡ sheetAnswer (a .1 .0) (now (a .0)) (now (a .1 .1 .0))) × (now (e .1 .1 .0) ≡ sheetOutput (a .1 .0) (now (a .0)) (now (a .1 .1 .0))))
+      (λ κs a r e. SheetPromise (observerOf a) (now (imageOf a)) (now (outputOf a)) r (now (outputOf e)))
   write-keeps = WriteMet.met
 
-  -- a: the input, the output
+  -- the input of the program stands where a call has its image
   pub print-keeps : Keeps M Print.ended PrintCode.routine
-      (λ κs a r e. (r ≡ length (printed (now (a .0)))) × (r ≤ 318) × (now (e .1 .0) ≡ overwrite (printed (now (a .0))) (now (a .1 .0))))
+      (λ κs a r e. (r ≡ length (printed (now (imageOf a))))
+      × (r ≤ 318)
+      × (now (soleOutputOf e) ≡ overwrite (printed (now (imageOf a))) (now (soleOutputOf a))))
   print-keeps = PrintMet.met

@@ -6,12 +6,13 @@ use mathlib.Core.List.{List, [], _∷_}
 use lib.ListN.{length, take}
 use Rattle.machine.specs.Machine.{turns}
 use Rattle.image.specs.Image.{imageBytes}
+use Rattle.monitor.specs.declared.Answer.{Answer}
 use Rattle.monitor.specs.Calls.{viewBytes}
 use Rattle.monitor.specs.CallList.{TurnCall, finalImage, turnsCarriedOut, KeptPromises}
 use Rattle.monitor.specs.Claims.{Accepted}
 use Rattle.monitor.specs.Examples.{b, receiver}
 use Rattle.sheet.specs.Text.{ascii}
-use Rattle.sheet.specs.Sheet.{sheetBytes, sheetAnswer, sheetOutput, printed}
+use Rattle.sheet.specs.Sheet.{sheetBytes, sheetAnswer, SheetPromise, printed}
 
 -- the sheet's call tells 0, or a number of the table other than 2. What is claimed of every call that writes, that the
 -- first number met is given and what it then writes, is monitor's
@@ -25,9 +26,9 @@ SheetLength = (v : ℕ) (image : List ℕ) → Accepted image → length (sheetB
 -- of two images the sheet's call for v, given outputs of equal length, tells the same and writes the same bytes
 abbrev pub EqualSheets : ℕ → List ℕ → List ℕ → Type 0
 EqualSheets v image image′ =
-    (out out′ : List ℕ) → length out ≡ length out′
-    → (sheetAnswer v image out ≡ sheetAnswer v image′ out′)
-    × (take (sheetAnswer v image out .length) (sheetOutput v image out) ≡ take (sheetAnswer v image′ out′ .length) (sheetOutput v image′ out′))
+    (out out′ : List ℕ) (told told′ : Answer) (after after′ : List ℕ) → length out ≡ length out′
+    → SheetPromise v image out told after → SheetPromise v image′ out′ told′ after′
+    → (told ≡ told′) × (take (told .length) after ≡ take (told′ .length) after′)
 
 -- a sheet tells no more than the view
 abbrev pub SheetsFollowViews : Type 0

@@ -1,5 +1,6 @@
 -- The observer sheet, the call that writes it, and what the program `slotsheet` prints.
 use Prim.Native.Nat.{ℕ}
+use mathlib.Core.Path.{_≡_}
 use mathlib.Core.Bool.{cond}
 use mathlib.Core.List.{List, [], _∷_, _++_}
 use lib.Dec.{leb, eqb}
@@ -43,6 +44,10 @@ sheetAnswer v image out = callAnswer (sheetCall v image) image out
 
 abbrev pub sheetOutput : ℕ → List ℕ → List ℕ → List ℕ
 sheetOutput v image out = callOutput (sheetCall v image) image out
+
+-- what the code promises of a call that told this and whose output then held `after`
+abbrev pub SheetPromise : ℕ → List ℕ → List ℕ → Answer → List ℕ → Type 0
+SheetPromise v image out told after = (told ≡ sheetAnswer v image out) × (after ≡ sheetOutput v image out)
 
 -- ---- the program
 
