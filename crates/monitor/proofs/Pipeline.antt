@@ -1,12 +1,13 @@
--- What is written of the table for an image that was loaded and run: the bytes of its state in the view.
+-- What the table holds of an image that was loaded, and what is written of it once it was run: the bytes of its state in the view.
 use Prim.Native.Nat.{ℕ}
-use mathlib.Core.Path.{_≡_, refl, sym, ap, _∙_}
+use mathlib.Core.Path.{_≡_, refl, sym, ap, subst, _∙_}
 use mathlib.Core.List.{List}
 use borrow.Author.Tests.{eqb-true, eqb-false}
 use lib.Dec.{eqb}
 use Rattle.wire.specs.Lists.{Bytes}
 use Rattle.wire.proofs.Lists.{split}
 use Rattle.machine.specs.State.{State}
+use Rattle.machine.specs.Valid.{Valid}
 use Rattle.machine.specs.Machine.{turns, view}
 use Rattle.machine.proofs.Machine.{turns-valid, turns-program, view-15}
 use Rattle.image.specs.Image.{programOf, turnSlotOf, imageNumber, stateOf, imageBytes}
@@ -15,6 +16,20 @@ use Rattle.table.specs.Table.{slotsIn, stateIn}
 use Rattle.snapshot.specs.Writing.{snapshotBytes}
 use Rattle.monitor.specs.Calls.{rewriteCall, rewriteAnswer, rewriteOutput, viewBytes, viewCall, viewAnswer, viewOutput}
 use Rattle.monitor.proofs.Calls.{call-refused}
+
+-- ---- loaded
+
+-- what was loaded, with the image's program and turn slot, is the image's state
+pub state-loaded : (image words program : List ℕ) (s : ℕ) → program ≡ programOf image → s ≡ turnSlotOf image → slotsIn words ≡ stateOf image .slots
+    → stateIn program s words ≡ stateOf image
+unfolding stateOf
+state-loaded image words program s e f g = rw (e, f, g)
+
+-- and so it is valid, which turns rest on
+pub loaded-valid : (image : List ℕ) → Bytes image → imageNumber image ≡ 0 → {s : State} → s ≡ stateOf image → Valid s
+loaded-valid image bytes accepted same = subst Valid (sym same) (accepted-valid image bytes accepted)
+
+-- ---- written
 
 module _ (image words : List ℕ) where
   -- the table holds the slots of a state with the image's program

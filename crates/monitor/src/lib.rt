@@ -105,10 +105,12 @@ pub fn turns(image: &[u8], count: u64, out: &mut [u8]) -> Answer
         return refused(2);
     }
     let mut table: [u32; 3328] = [0; 3328];
-    let ran = turn::run(&mut table, image, count);
-    if ran.number == 0 {
+    let number = snapshot::load(&mut table, image);
+    if number == 0 {
+        let turn = image::turn_slot(image);
+        let ran = turn::turns(&mut table, image::program(image), turn, count);
         write_answer(out, &table, image, ran.turn, 15, ran.busy)
     } else {
-        refused(ran.number)
+        refused(number)
     }
 }

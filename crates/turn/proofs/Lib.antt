@@ -1,4 +1,3 @@
 -- The laws of the crate `turn`, a file each.
 pub mod Effects
 pub mod Steps
-pub mod Answer

@@ -1,4 +1,4 @@
-// Turns over the table: the effect of each instruction, the turn of a slot, and a run of turns.
+// Turns over the table: the effect of each instruction, the turn of a slot, and a run of turns. They rest on a valid state.
 ghost use Prim.Native.Nat.{_+_, _-_, _%_, _≤_, _<_, min};
 ghost use mathlib.Core.Path.{_≡_};
 ghost use mathlib.Core.Bool.{true};
@@ -13,7 +13,7 @@ ghost use Rattle.machine.specs.Machine.{turns, busy};
 ghost use Rattle.table.specs.Table.{slotsIn, stateIn};
 ghost use Rattle.table.specs.Change.{taskAt, messageAt, change, withoutMessage};
 ghost use Rattle.turn.specs.Effects.{executed, RoomFor, Ready, WasDecoded, isGiven};
-ghost use Rattle.turn.specs.Answer.{turnsTold, runAnswer, slotsAfter};
+ghost use Rattle.turn.specs.Answer.{turnsTold};
 use instruction::Decoded;
 use instruction::Instruction;
 
@@ -293,8 +293,14 @@ fn next_slot(end: u8) -> u8
     if end < 16 { end } else { 0 }
 }
 
-// n turns of the tasks in the table.
-fn turns(table: &mut [u32; 3328], program: &[u8], first: u8, n: u64) -> RunAnswer
+// What a run of turns tells: the slot whose turn is next, and how many of the turns met a live task.
+pub struct RunAnswer {
+    pub turn: u8,
+    pub busy: u64,
+}
+
+// n turns of the tasks in the table, the first that of slot `first`.
+pub fn turns(table: &mut [u32; 3328], program: &[u8], first: u8, n: u64) -> RunAnswer
     requires { ⌜ Valid (stateIn (now program) first (now table)) ⌝ }
     ensures { λ r. ⌜ (r ≡ turnsTold n (stateIn (now (program .entry)) first (now (table .entry))))
         × (slotsIn (now (table .exit)) ≡ turns n (stateIn (now (program .entry)) first (now (table .entry))) .slots) ⌝ }
@@ -309,33 +315,7 @@ fn turns(table: &mut [u32; 3328], program: &[u8], first: u8, n: u64) -> RunAnswe
         slot = next_slot(end);
     }
     RunAnswer {
-        number: 0,
         turn: slot,
         busy: busy,
-    }
-}
-
-// What a run of turns tells: the image's number, 0 where it is accepted; the slot whose turn is next; how many of the turns
-// met a live task.
-pub struct RunAnswer {
-    pub number: u8,
-    pub turn: u8,
-    pub busy: u64,
-}
-
-// Loads an image, where it is accepted, and carries out n turns. Of a refused image slot and count are 0.
-pub fn run(table: &mut [u32; 3328], image: &[u8], n: u64) -> RunAnswer
-    ensures { λ r. ⌜ (r ≡ runAnswer (now (image .entry)) n)
-        × (slotsIn (now (table .exit)) ≡ slotsAfter (now (image .entry)) n (slotsIn (now (table .entry)))) ⌝ }
-{
-    let number = snapshot::load(table, image);
-    if number == 0 {
-        turns(table, image::program(image), image::turn_slot(image), n)
-    } else {
-        RunAnswer {
-            number: number,
-            turn: 0,
-            busy: 0,
-        }
     }
 }

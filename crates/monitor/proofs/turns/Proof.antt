@@ -1,18 +1,44 @@
--- `monitor::turns` meets its contract: an accepted image is run, and written for label 15.
+-- `monitor::turns` meets its contract: an accepted image is loaded, its turns are carried out, and it is written for label 15.
 use borrow.Author.Needs.{needs}
-use mathlib.Core.Path.{sym, ap, _∙_}
+use Prim.Native.Nat.{ℕ}
+use mathlib.Core.Path.{_≡_, sym, ap, _∙_}
+use mathlib.Core.List.{List}
 use native.Mathlib.Omega.{arith}
 use borrow.Author.Tests.{le-leb, lt-leb}
 use denote.Ref.{now}
-use Rattle.wire.specs.Lists.{IsByte}
+use Rattle.wire.specs.Lists.{IsByte, Bytes}
 use Rattle.wire.proofs.Lists.{every-of}
+use Rattle.machine.specs.State.{State}
+use Rattle.machine.specs.Machine as Machine
+use Rattle.image.specs.Image.{imageNumber, stateOf}
+use Rattle.table.specs.Table.{stateIn}
 use Rattle.snapshot.specs.Writing.{snapshotBytes}
+use Rattle.snapshot.proofs.Loading.{loaded-accepted}
 use Rattle.turn.specs.declared.RunAnswer.{RunAnswer}
-use Rattle.turn.proofs.Answer.{run-accepted, run-number}
+use Rattle.turn.specs.Answer.{turnsTold}
 use Rattle.monitor.proofs.Calls.{call-beyond, call-refused, call-accepted}
-use Rattle.monitor.proofs.Pipeline.{turns-written}
+use Rattle.monitor.proofs.Pipeline.{state-loaded, loaded-valid, turns-written}
 use Rattle.monitor.proofs.turns.Statement.{statement}
 use Rattle.monitor.proofs.turns.Tie as tie
+
+-- ---- where an image that was loaded is to be run
+
+module _ (p : tie.After-program) where
+  abbrev image : List ℕ
+  image = now (p .before .before .before .before .before .before .before .before .before .args .image)
+
+  bytes : Bytes image
+  bytes = every-of IsByte 0 image (λ i. p .before .before .before .before .before .before .before .before .shared-slice-known .given i .fits)
+
+  accepted : imageNumber image ≡ 0
+  accepted = sym (p .before .before .before .before .load .ensures .0) ∙ p .before .before .before .if2 .taken
+
+  same : stateIn (now (p .program .result)) (p .before .before .turn-slot .result) (p .before .before .before .before .load .last .0) ≡ stateOf image
+  same =
+      state-loaded image _ _ _ (p .program .ensures) (p .before .before .turn-slot .ensures)
+      (p .before .before .before .before .load .ensures .1 ∙ loaded-accepted image _ accepted)
+
+-- ---- the answers
 
 -- more than 1,000,000 turns
 returns : tie.Need-returns
@@ -23,29 +49,22 @@ returns c =
 -- an accepted image
 returns-2 : tie.Need-returns-2
 returns-2 c =
-    let t = c .before .before .before .before .before in
-    let r = t .before .before .run in
-    let k = t .before .before .before .before .before .before in
-    let a = k .before .args in
-    let image = now (a .image) in
-    let words = r .last .0 in
-    let bytes = every-of IsByte 0 image (λ i. k .shared-slice-known .given i .fits) in
-    let accepted = sym (run-number image (a .count) (r .ensures .0)) ∙ t .if2 .taken in
-    let laws = run-accepted image (a .count) _ accepted in
-    let told = r .ensures .0 ∙ laws .0 in
-    let same =
-    ap (λ (x : RunAnswer). snapshotBytes words image (x .turn) 15) told
-    ∙ turns-written image bytes words (a .count) accepted (r .ensures .1 ∙ laws .1) in
-    let within = le-leb (a .count) 1000000 (omega arith) in
-    call-accepted _ _ _ (rw within) accepted same (ap (λ (x : RunAnswer). x .busy) told) (c .before .before .write-answer .ensures)
+    let r = c .before .before .before .before .before .turns in
+    let p = c .before .before .before .before .before .before in
+    let n = p .before .before .before .before .before .before .before .before .before .args .count in
+    let told = r .ensures .0 ∙ ap (turnsTold n) (same p) in
+    let ran = r .ensures .1 ∙ ap (λ (s : State). Machine.turns n s .slots) (same p) in
+    let written =
+    ap (λ (x : RunAnswer). snapshotBytes (r .last .0) (image p) (x .turn) 15) told
+    ∙ turns-written (image p) (bytes p) (r .last .0) n (accepted p) ran in
+    let within = le-leb n 1000000 (omega arith) in
+    call-accepted _ _ _ (rw within) (accepted p) written (ap (λ (x : RunAnswer). x .busy) told) (c .before .before .write-answer .ensures)
 
 -- a refused one
 returns-3 : tie.Need-returns-3
 returns-3 c =
-    let a = c .before .before .before .before .before .before .before .before .args in
-    let number = run-number (now (a .image)) (a .count) (c .before .before .before .run .ensures .0) in
-    let within = le-leb (a .count) 1000000 (omega arith) in
-    call-refused _ _ _ (rw within) number (c .before .if2 .left) (c .refused2 .ensures)
+    let within = le-leb (c .before .before .before .before .before .before .before .args .count) 1000000 (omega arith) in
+    call-refused _ _ _ (rw within) (c .before .before .load .ensures .0) (c .before .if2 .left) (c .refused2 .ensures)
 
 pub turns-spec : {M : Type 1} → statement M
 turns-spec =
@@ -54,6 +73,9 @@ turns-spec =
     (λ c κs. tt)
     returns
     (λ c κs. tt)
+    (λ c κs. tt)
+    (λ c κs. tt)
+    (λ c κs. loaded-valid (image c) (bytes c) (accepted c) (same c))
     (λ c κs. tt)
     (λ c κs. tt)
     (λ c. search needs)

@@ -8,7 +8,6 @@ use Rattle.machine.specs.Machine as Machine
 use Rattle.machine.proofs.Machine.{turns-none, turns-add, busy-none, busy-add, busy-most}
 use Rattle.table.specs.Table.{stateIn}
 use Rattle.turn.proofs.Steps.{valid-after, slot-after}
-use Rattle.turn.proofs.Answer.{told-is}
 use Rattle.turn.proofs.turns.Statement.{statement}
 use Rattle.turn.proofs.turns.Tie as tie
 
@@ -84,7 +83,8 @@ returns c =
     let a = c .before .before .before .args in
     let all : a .n - h .left ≡ a .n = omega arith in
     let state = rw all at (h .inv .1) in
-    (told-is _ (a .n) (ap (λ (s : State). s .turnSlot) state) (rw all at (h .inv .2)), ap (λ (s : State). s .slots) state)
+    let counted = rw all at (h .inv .2) in
+    (λ i. record { turn = state i .turnSlot; busy = counted i }, ap (λ (s : State). s .slots) state)
 
 pub turns-spec : {M : Type 1} → statement M
 turns-spec =
