@@ -46,14 +46,17 @@ module _ (P : ℕ → Type 0) where
 -- 0, or one of 3 to 12
 pub record Listed (x : ℕ) : Type 0 where
   pub most : x ≤ 12
-  pub not-1 : x ≢ 1
-  pub not-2 : x ≢ 2
+  pub least : 1 ≤ x → 3 ≤ x
 
 pub listed-none : Listed 0
-listed-none = record { most = omega arith; not-1 = λ e. omega arith; not-2 = λ e. omega arith }
+listed-none = record { most = omega arith; least = λ h. omega arith }
 
 pub listed-unless : (t : Bool) (x : ℕ) → 3 ≤ x → x ≤ 12 → Listed (unless t x)
-listed-unless t x l m = unless-holds Listed t x listed-none record { most = m; not-1 = λ e. omega arith; not-2 = λ e. omega arith }
+listed-unless t x l m = unless-holds Listed t x listed-none record { most = m; least = λ _. l }
+
+-- neither 1 nor 2 is among them
+pub listed-not : (x k : ℕ) → Listed x → 1 ≤ k → k ≤ 2 → x ≢ k
+listed-not x k listed low high e = omega (arith, listed .least (omega arith))
 
 pub listed-short : (n : ℕ) (b : List ℕ) → Listed (short n b)
 listed-short n b = listed-unless (leb n (length b)) 3 (omega arith) (omega arith)
@@ -64,6 +67,11 @@ listed-short n b = listed-unless (leb n (length b)) 3 (omega arith) (omega arith
 pub unless-none : (t : Bool) (k : ℕ) → unless t (suc k) ≡ 0 → t ≡ true
 unless-none true k e = refl
 unless-none false k e = absurd (suc-ne-zero k e)
+
+-- and one that gives its number fails
+pub unless-given : (t : Bool) (x : ℕ) → 1 ≤ x → unless t x ≡ x → t ≡ false
+unless-given true x some e = absurd (omega arith)
+unless-given false x some e = refl
 
 pub short-none : (n : ℕ) (b : List ℕ) → short n b ≡ 0 → n ≤ length b
 short-none n b e = leb-true n (length b) (unless-none (leb n (length b)) 2 e)

@@ -1,23 +1,24 @@
 -- Laws of a call: when it is accepted, what it then tells and writes, and which numbers it may tell.
-use Prim.Native.Nat.{ℕ, suc, _<_, _≤_}
+use Prim.Native.Nat.{ℕ, zero, suc, _<_, _≤_}
 use mathlib.Core.Logic.{_≢_}
 use mathlib.Core.Path.{_≡_, refl, sym, ap, _∙_}
-use mathlib.Core.Bool.{cond}
+use mathlib.Core.Bool.{Bool, true, false, cond}
 use mathlib.Core.List.{List, []}
 use native.Mathlib.Omega.{arith}
-use borrow.Author.Tests.{leb-true, le-leb, lt-leb, eqb-true, eqb-false, ne-eqb}
+use borrow.Author.Tests.{leb-true, leb-false, le-leb, lt-leb, eqb-true, eqb-false, ne-eqb}
 use lib.Dec.{leb, eqb}
 use lib.ListN.{length, take}
+use Rattle.wire.specs.Lists.{Bytes}
 use Rattle.wire.specs.Output.{overwrite, written}
 use Rattle.wire.proofs.Lists.{split}
 use Rattle.wire.proofs.Output.{take-overwrite, drop-overwrite, length-overwrite, length-written}
 use Rattle.image.specs.Refusal.{_then_, unless}
 use Rattle.image.specs.Image.{imageNumber}
-use Rattle.image.proofs.Refusal.{then-stop, then-left, then-right, then-holds, unless-holds, unless-none}
+use Rattle.image.proofs.Refusal.{then-stop, then-left, then-right, then-holds, unless-holds, unless-none, unless-given, Listed, listed-not}
 use Rattle.image.proofs.Image.{image-listed}
 use Rattle.monitor.specs.declared.Answer.{Answer}
 use Rattle.monitor.specs.Calls.{Call, callNumber, refusal, outputAnswer, callAnswer, callOutput}
-use Rattle.monitor.specs.Claims.{AcceptedExactly, WritesItsAnswer}
+use Rattle.monitor.specs.Claims.{Accepted, Exactly, NumbersByCause, WritesItsAnswer}
 
 -- ---- what is told once b was written where the output has room: r, its length, is compared with the output's
 
@@ -31,6 +32,26 @@ module _ (b out : List ℕ) (busy : ℕ) {r : ℕ} {after : List ℕ} (size : r 
   pub told-13 : length after < r → {told : Answer} → told ≡ refusal 13 → told ≡ outputAnswer b busy out
   told-13 h e = rw (lt-leb (length b) (length out) (omega (arith, size, same-size))) e
 
+-- ---- which number was given: the argument's a, the image's i, or 13 where the test t of the output fails
+
+then-argument : (a i : ℕ) (t : Bool) (k : ℕ) → Listed i → 1 ≤ k → k ≤ 2 → (a then i then unless t 13) ≡ k → a ≡ k
+then-argument zero zero true k listed low high e = e
+then-argument zero zero false k listed low high e = omega arith
+then-argument zero (suc i) t k listed low high e = absurd (listed-not (suc i) k listed low high e)
+then-argument (suc a) i t k listed low high e = e
+
+then-image : (a i : ℕ) (t : Bool) (k : ℕ) → a ≤ 2 → 3 ≤ k → k ≤ 12 → (a then i then unless t 13) ≡ k → (a ≡ 0) × (i ≡ k)
+then-image zero zero true k argument low high e = (refl, e)
+then-image zero zero false k argument low high e = (refl, omega arith)
+then-image zero (suc i) t k argument low high e = (refl, e)
+then-image (suc a) i t k argument low high e = absurd (omega arith)
+
+then-output : (a i : ℕ) (t : Bool) → a ≤ 2 → i ≤ 12 → (a then i then unless t 13) ≡ 13 → (a ≡ 0) × (i ≡ 0) × (t ≡ false)
+then-output zero zero true argument listed e = absurd (omega arith)
+then-output zero zero false argument listed e = (refl, refl, refl)
+then-output zero (suc i) t argument listed e = absurd (omega arith)
+then-output (suc a) i t argument listed e = absurd (omega arith)
+
 -- ---- a call by its number
 
 module _ (c : Call) (image out : List ℕ) where
@@ -39,23 +60,58 @@ module _ (c : Call) (image out : List ℕ) where
   unfolding callAnswer
   answer-number = split (eqb (callNumber c image out) 0) (λ e. rw e (sym (eqb-true (callNumber c image out) 0 e))) (λ e. rw e)
 
-  pub first-met : callAnswer c image out .number ≡ (c .argumentNumber then imageNumber image then unless (leb (length (c .bytes)) (length out)) 13)
+  -- the output has room for the bytes
+  abbrev fits : Bool
+  fits = leb (length (c .bytes)) (length out)
+
+  -- the parts of the number, in their order
+  first-met : callAnswer c image out .number ≡ (c .argumentNumber then imageNumber image then unless fits 13)
   unfolding callNumber
   first-met = answer-number
 
-  only : callNumber c image out ≡ 0 → (c .argumentNumber ≡ 0) × (imageNumber image ≡ 0) × (length (c .bytes) ≤ length out)
-  unfolding callNumber
-  only e =
-      let i = then-right (c .argumentNumber) _ e in
-      let o = then-right (imageNumber image) _ i in
-      (then-left (c .argumentNumber) _ e, then-left (imageNumber image) _ i, leb-true _ _ (unless-none (leb (length (c .bytes)) (length out)) 12 o))
+  -- an accepted call
+  pub accepted-exactly : Exactly (callAnswer c image out .number ≡ 0) ((c .argumentNumber ≡ 0) × (imageNumber image ≡ 0) × (length (c .bytes) ≤ length out))
+  accepted-exactly = (
+    λ e.
+        let i = then-right (c .argumentNumber) _ (sym first-met ∙ e) in
+        let o = then-right (imageNumber image) _ i in (
+          then-left (c .argumentNumber) _ (sym first-met ∙ e),
+          then-left (imageNumber image) _ i,
+          leb-true _ _ (unless-none fits 12 o),
+        ),
+    λ h. first-met ∙ rw (h .0, h .1, le-leb (length (c .bytes)) (length out) (h .2)),
+  )
 
-  always : c .argumentNumber ≡ 0 → imageNumber image ≡ 0 → length (c .bytes) ≤ length out → callNumber c image out ≡ 0
-  unfolding callNumber
-  always a i o = rw (a, i, le-leb (length (c .bytes)) (length out) o)
+  -- 1 and 2 come from the argument
+  pub argument-exactly : (k : ℕ) → 1 ≤ k → k ≤ 2 → Exactly (callAnswer c image out .number ≡ k) (c .argumentNumber ≡ k)
+  argument-exactly k low high = (
+    λ e. then-argument (c .argumentNumber) (imageNumber image) fits k (image-listed image) low high (sym first-met ∙ e),
+    λ e. first-met ∙ rw e (then-stop k (λ z. omega arith) _),
+  )
 
-  pub accepted-exactly : AcceptedExactly c image out
-  accepted-exactly = record { only = λ e. only (sym answer-number ∙ e); always = λ a i o. answer-number ∙ always a i o }
+  pub numbers-by-cause : c .argumentNumber ≤ 2 → NumbersByCause c image out
+  numbers-by-cause argument = record {
+    accepted = accepted-exactly;
+    fromArgument = argument-exactly;
+    fromImage = λ k low high. (
+      λ e. then-image (c .argumentNumber) (imageNumber image) fits k argument low high (sym first-met ∙ e),
+      λ h. first-met ∙ rw (h .0, h .1) (then-stop k (λ z. omega arith) _),
+    );
+    fromOutput = (
+      λ e.
+          let o = then-output (c .argumentNumber) (imageNumber image) fits argument (image-listed image .most) (sym first-met ∙ e) in
+          (o .0, o .1, leb-false _ _ (o .2)),
+      λ h. first-met ∙ rw (h .0, h .1, lt-leb (length (c .bytes)) (length out) (h .2)),
+    );
+  }
+
+  -- the argument x has the number k where it is beyond its limit
+  pub limit-exactly : (x limit k : ℕ) → c .argumentNumber ≡ unless (leb x limit) k → 1 ≤ k → k ≤ 2
+      → Exactly (callAnswer c image out .number ≡ k) (limit < x)
+  limit-exactly x limit k e low high = (
+    λ told. leb-false x limit (unless-given (leb x limit) k low (sym e ∙ argument-exactly k low high .0 told)),
+    λ beyond. argument-exactly k low high .1 (e ∙ rw (lt-leb x limit beyond)),
+  )
 
   -- the bytes that the call writes, none where it is refused
   call-written : take (callAnswer c image out .length) (callOutput c image out) ≡ cond (eqb (callNumber c image out) 0) (c .bytes) []
@@ -67,12 +123,21 @@ module _ (c : Call) (image out : List ℕ) where
   unfolding callOutput
   output-accepted e = rw (sym answer-number ∙ e)
 
+  -- of bytes, number 0 tells an accepted image
+  pub told-accepted : Bytes image → callAnswer c image out .number ≡ 0 → Accepted image
+  told-accepted bytes e = record { bytes = bytes; number = accepted-exactly .0 e .1 }
+
+  -- a call that runs no turn tells busy count 0
+  pub busy-0 : c .busy ≡ 0 → callAnswer c image out .busy ≡ 0
+  unfolding callAnswer
+  busy-0 e = split (eqb (callNumber c image out) 0) (λ t. rw t e) (λ t. rw t)
+
   -- it writes the bytes of its answer and nothing else
   pub writes-its-answer : WritesItsAnswer c (callAnswer c image out) out (callOutput c image out)
   unfolding callAnswer callOutput
   writes-its-answer =
       split (eqb (callNumber c image out) 0)
-      (λ e. let room = only (eqb-true (callNumber c image out) 0 e) .2 in
+      (λ e. let room = accepted-exactly .0 (answer-number ∙ eqb-true (callNumber c image out) 0 e) .2 in
       rw e
       record {
         refused = λ n. absurd (n refl);
@@ -103,7 +168,7 @@ module _ (c : Call) (image out : List ℕ) where
       let i = image-listed image in
       number-holds (λ x. (x ≤ 13) × (x ≢ 2))
       (rw e (unless-holds (λ x. (x ≤ 13) × (x ≢ 2)) (leb v 15) 1 (omega arith, λ z. omega arith) (omega arith, λ z. omega arith)))
-      (omega (arith, i .most), i .not-2) (omega arith, λ z. omega arith) (omega arith, λ z. omega arith)
+      (omega (arith, i .most), listed-not _ 2 i (omega arith) (omega arith)) (omega arith, λ z. omega arith) (omega arith, λ z. omega arith)
 
   -- ---- a call whose argument is beyond its limit
 

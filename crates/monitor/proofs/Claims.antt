@@ -4,7 +4,7 @@ use mathlib.Core.Logic.{_≢_}
 use mathlib.Core.Path.{refl, ap, _∙_}
 use mathlib.Core.List.{List}
 use native.Mathlib.Omega.{arith}
-use borrow.Author.Tests.{le-leb, lt-leb}
+use borrow.Author.Tests.{le-leb}
 use lib.Dec.{leb}
 use lib.ListN.{length}
 use Rattle.wire.specs.Output.{overwrite}
@@ -14,39 +14,38 @@ use Rattle.machine.specs.Valid.{Valid}
 use Rattle.machine.specs.Machine.{turns, view}
 use Rattle.machine.proofs.Machine.{turns-valid, view-valid, view-15}
 use Rattle.image.specs.Image.{stateOf, imageBytes}
-use Rattle.image.proofs.Refusal.{unless-holds}
+use Rattle.image.proofs.Refusal.{unless-holds, listed-not}
 use Rattle.image.proofs.Image.{accepted-length, image-listed, image-forth, record-part, record-above, record-refused, record-inside}
 use Rattle.image.proofs.Image.{extent-none, extent-some, extent-told, extent-within}
 use Rattle.monitor.specs.Calls.{rewriteCall, turnsCall, viewCall}
-use Rattle.monitor.specs.Claims.{NumbersAreListed, FirstMetIsGiven, LimitsAreRefused, CallsAreAcceptedExactly, OthersAreAccepted, CallsWriteTheirAnswer, RecordIsItsPart}
+use Rattle.monitor.specs.Claims.{NumbersAreListed, LimitsAreRefused, NoneInAnyOtherEvent, OthersAreAccepted, CallsWriteTheirAnswer, RecordIsItsPart}
 use Rattle.monitor.specs.Claims.{ImageLengths, ReadThenWrite, WriteThenRead, ViewIsAccepted, ViewFor15, Secrecy, EqualViewsAreEqualBytes}
-use Rattle.monitor.proofs.Calls.{first-met, accepted-exactly, output-accepted, writes-its-answer, number-holds, observer-listed}
+use Rattle.monitor.proofs.Calls.{accepted-exactly, numbers-by-cause, limit-exactly, output-accepted, writes-its-answer, number-holds, observer-listed}
 use Rattle.monitor.proofs.Secrecy as Secrecy
 use Rattle.monitor.proofs.Secrecy.{read-valid, rewritten, written-accepted, equal-bytes, equal-views}
 
 pub numbers-are-listed : NumbersAreListed
 numbers-are-listed image out =
-    let i = image-listed image in (
+    let i = image-listed image in
+    let not-1 = listed-not _ 1 i (omega arith) (omega arith) in
+    let not-2 = listed-not _ 2 i (omega arith) (omega arith) in (
       number-holds (rewriteCall image) image out (λ x. (x ≤ 13) × (x ≢ 1) × (x ≢ 2))
-          (omega arith, λ e. omega arith, λ e. omega arith) (omega (arith, i .most), i .not-1, i .not-2)
+          (omega arith, λ e. omega arith, λ e. omega arith) (omega (arith, i .most), not-1, not-2)
           (omega arith, λ e. omega arith, λ e. omega arith) (omega arith, λ e. omega arith, λ e. omega arith),
       λ n. number-holds (turnsCall n image) image out (λ x. (x ≤ 13) × (x ≢ 1))
           (unless-holds (λ x. (x ≤ 13) × (x ≢ 1)) (leb n 1000000) 2 (omega arith, λ e. omega arith) (omega arith, λ e. omega arith))
-          (omega (arith, i .most), i .not-1) (omega arith, λ e. omega arith) (omega arith, λ e. omega arith),
+          (omega (arith, i .most), not-1) (omega arith, λ e. omega arith) (omega arith, λ e. omega arith),
       λ v. observer-listed (viewCall v image) image out v refl,
     )
 
-pub first-met-is-given : FirstMetIsGiven
-first-met-is-given = first-met
-
 pub limits-are-refused : LimitsAreRefused
 limits-are-refused image out = (
-  λ v l. first-met (viewCall v image) image out ∙ rw (lt-leb v 15 l),
-  λ n l. first-met (turnsCall n image) image out ∙ rw (lt-leb n 1000000 l),
+  λ v. limit-exactly (viewCall v image) image out v 15 1 refl (omega arith) (omega arith),
+  λ n. limit-exactly (turnsCall n image) image out n 1000000 2 refl (omega arith) (omega arith),
 )
 
-pub calls-are-accepted-exactly : CallsAreAcceptedExactly
-calls-are-accepted-exactly = accepted-exactly
+pub none-in-any-other-event : NoneInAnyOtherEvent
+none-in-any-other-event c low image out = numbers-by-cause c image out low
 
 -- a valid state's image has at most 7,796 bytes
 room : (s : State) → Valid s → (out : List ℕ) → 7796 ≤ length out → length (imageBytes s) ≤ length out
@@ -56,9 +55,9 @@ pub others-are-accepted : OthersAreAccepted
 others-are-accepted image out a h =
     let s = stateOf image in
     let ok = read-valid image a in (
-      accepted-exactly (rewriteCall image) image out .always refl (a .number) (room s ok out h),
-      λ n l. accepted-exactly (turnsCall n image) image out .always (rw (le-leb n 1000000 l)) (a .number) (room (turns n s) (turns-valid n s ok) out h),
-      λ v l. accepted-exactly (viewCall v image) image out .always (rw (le-leb v 15 l)) (a .number) (room (view v s) (view-valid v s ok) out h),
+      accepted-exactly (rewriteCall image) image out .1 (refl, a .number, room s ok out h),
+      λ n l. accepted-exactly (turnsCall n image) image out .1 (rw (le-leb n 1000000 l), a .number, room (turns n s) (turns-valid n s ok) out h),
+      λ v l. accepted-exactly (viewCall v image) image out .1 (rw (le-leb v 15 l), a .number, room (view v s) (view-valid v s ok) out h),
     )
 
 pub calls-write-their-answer : CallsWriteTheirAnswer
@@ -86,7 +85,7 @@ read-then-write image a =
     let same = rewritten image a in (
       read-valid image a,
       same,
-      λ out h. output-accepted c image out (accepted-exactly c image out .always refl (a .number) (rw same h)) ∙ ap (λ (b : List ℕ). overwrite b out) same,
+      λ out h. output-accepted c image out (accepted-exactly c image out .1 (refl, a .number, rw same h)) ∙ ap (λ (b : List ℕ). overwrite b out) same,
     )
 
 pub write-then-read : WriteThenRead

@@ -43,7 +43,7 @@ module _ (v : ℕ) (seen : v ≤ 15) where
       → take (viewAnswer v image out .length) (viewOutput v image out) ≡ viewBytes v image
   view-shown image a out room =
       let c = viewCall v image in
-      writes-its-answer c image out .accepted (accepted-exactly c image out .always observer-none (a .number) room) .2
+      writes-its-answer c image out .accepted (accepted-exactly c image out .1 (observer-none, a .number, room)) .2
 
   module _ (image image′ : List ℕ) where
     pub equal-bytes : EqualViews v image image′ → viewBytes v image ≡ viewBytes v image′

@@ -3,13 +3,11 @@ use Prim.Native.Nat.{ℕ, _+_, _<_, _≤_}
 use mathlib.Core.Logic.{_≢_}
 use mathlib.Core.Path.{_≡_}
 use mathlib.Core.List.{List, []}
-use lib.Dec.{leb}
 use lib.ListN.{length, take, drop}
 use Rattle.wire.specs.Lists.{Bytes}
 use Rattle.wire.specs.Output.{overwrite}
 use Rattle.machine.specs.State.{State, slotAt}
 use Rattle.machine.specs.Valid.{Valid}
-use Rattle.image.specs.Refusal.{_then_, unless}
 use Rattle.image.specs.Record.{recordBytes}
 use Rattle.image.specs.declared.Extent.{Extent}
 use Rattle.image.specs.Image.{imageNumber, stateOf, imageBytes, recordStart}
@@ -23,6 +21,10 @@ pub record Accepted (image : List ℕ) : Type 0 where
   pub bytes : Bytes image
   pub number : imageNumber image ≡ 0
 
+-- A where B holds, and only there
+abbrev pub Exactly : Type 0 → Type 0 → Type 0
+Exactly A B = (A → B) × (B → A)
+
 -- ---- demand 1: what a call tells and writes
 
 -- "Numbers a caller may receive": 0 and those of the table, 1 and 2 "each only in the call that has that argument"
@@ -33,27 +35,24 @@ NumbersAreListed =
     × ((n : ℕ) → (turnsAnswer n image out .number ≤ 13) × (turnsAnswer n image out .number ≢ 1))
     × ((v : ℕ) → (viewAnswer v image out .number ≤ 13) × (viewAnswer v image out .number ≢ 2))
 
--- "Order: 1 or 2 first [..] Then the image [..] Then 11, 12, 13. The first met is given"
-abbrev pub FirstMetIsGiven : Type 0
-FirstMetIsGiven =
-    (c : Call) (image out : List ℕ)
-    → callAnswer c image out .number ≡ (c .argumentNumber then imageNumber image then unless (leb (length (c .bytes)) (length out)) 13)
-
--- 1 "the label asked for is above 15", 2 "more than 1,000,000 turns"
+-- 1 "the label asked for is above 15", 2 "more than 1,000,000 turns": then, whatever the image and the output are, and at no
+-- other time
 abbrev pub LimitsAreRefused : Type 0
 LimitsAreRefused =
     (image out : List ℕ)
-    → ((v : ℕ) → 15 < v → viewAnswer v image out .number ≡ 1)
-    × ((n : ℕ) → 1000000 < n → turnsAnswer n image out .number ≡ 2)
+    → ((v : ℕ) → Exactly (viewAnswer v image out .number ≡ 1) (15 < v))
+    × ((n : ℕ) → Exactly (turnsAnswer n image out .number ≡ 2) (1000000 < n))
 
--- "none of them in any other event": a call is accepted exactly when its argument and the image have no number and the
--- output is long enough
-pub record AcceptedExactly (c : Call) (image out : List ℕ) : Type 0 where
-  pub only : callAnswer c image out .number ≡ 0 → (c .argumentNumber ≡ 0) × (imageNumber image ≡ 0) × (length (c .bytes) ≤ length out)
-  pub always : c .argumentNumber ≡ 0 → imageNumber image ≡ 0 → length (c .bytes) ≤ length out → callAnswer c image out .number ≡ 0
+-- "The first met is given; none of them in any other event": each number of a call by what gives it. 1 and 2 come from the
+-- argument alone; 3 to 12 from the image alone, where the argument has none; 13 from the output, where neither has one
+pub record NumbersByCause (c : Call) (image out : List ℕ) : Type 0 where
+  pub accepted : Exactly (callAnswer c image out .number ≡ 0) ((c .argumentNumber ≡ 0) × (imageNumber image ≡ 0) × (length (c .bytes) ≤ length out))
+  pub fromArgument : (k : ℕ) → 1 ≤ k → k ≤ 2 → Exactly (callAnswer c image out .number ≡ k) (c .argumentNumber ≡ k)
+  pub fromImage : (k : ℕ) → 3 ≤ k → k ≤ 12 → Exactly (callAnswer c image out .number ≡ k) ((c .argumentNumber ≡ 0) × (imageNumber image ≡ k))
+  pub fromOutput : Exactly (callAnswer c image out .number ≡ 13) ((c .argumentNumber ≡ 0) × (imageNumber image ≡ 0) × (length out < length (c .bytes)))
 
-abbrev pub CallsAreAcceptedExactly : Type 0
-CallsAreAcceptedExactly = (c : Call) (image out : List ℕ) → AcceptedExactly c image out
+abbrev pub NoneInAnyOtherEvent : Type 0
+NoneInAnyOtherEvent = (c : Call) → c .argumentNumber ≤ 2 → (image out : List ℕ) → NumbersByCause c image out
 
 -- "1,000,000 turns accepted"; an output of 7,796 bytes is long enough for every call
 abbrev pub OthersAreAccepted : Type 0

@@ -1,6 +1,8 @@
 // The C interface, which include/rithennaw.h declares: each function hands its arguments to a call of the monitor or the
-// sheet's, and what the call tells to the caller. A `&[u8]` is a pointer and then a length.
+// sheet's, and what the call tells to the caller. A `&[u8]` is a pointer and then a length. Each promises as well that what it
+// was lent as the image are bytes: with number 0 that makes an accepted image.
 ghost use mathlib.Core.Path.{_≡_};
+ghost use Rattle.wire.specs.Lists.{Bytes};
 ghost use Rattle.monitor.specs.Calls.{extentAnswer, rewriteAnswer, rewriteOutput, turnsAnswer, turnsOutput, viewAnswer, viewOutput};
 ghost use Rattle.sheet.specs.Sheet.{sheetAnswer, sheetOutput};
 
@@ -8,7 +10,8 @@ ghost use Rattle.sheet.specs.Sheet.{sheetAnswer, sheetOutput};
 #[no_mangle]
 pub extern "C" fn rithennaw_record(image: &[u8], slot: u32, start: &mut usize, length: &mut usize)
     ensures { λ _. ⌜ (now (start .exit) ≡ extentAnswer (now (image .entry)) slot .start)
-        × (now (length .exit) ≡ extentAnswer (now (image .entry)) slot .length) ⌝ }
+        × (now (length .exit) ≡ extentAnswer (now (image .entry)) slot .length)
+        × Bytes (now (image .entry)) ⌝ }
 {
     let extent = monitor::record_extent(image, slot);
     *start = extent.start;
@@ -20,7 +23,8 @@ pub extern "C" fn rithennaw_record(image: &[u8], slot: u32, start: &mut usize, l
 pub extern "C" fn rithennaw_rewrite(image: &[u8], out: &mut [u8], length: &mut usize) -> u8
     ensures { λ r. ⌜ (r ≡ rewriteAnswer (now (image .entry)) (now (out .entry)) .number)
         × (now (length .exit) ≡ rewriteAnswer (now (image .entry)) (now (out .entry)) .length)
-        × (now (out .exit) ≡ rewriteOutput (now (image .entry)) (now (out .entry))) ⌝ }
+        × (now (out .exit) ≡ rewriteOutput (now (image .entry)) (now (out .entry)))
+        × Bytes (now (image .entry)) ⌝ }
 {
     let rewritten = monitor::rewrite(image, out);
     *length = rewritten.length;
@@ -39,7 +43,8 @@ pub extern "C" fn rithennaw_turns(
     ensures { λ r. ⌜ (r ≡ turnsAnswer count (now (image .entry)) (now (out .entry)) .number)
         × (now (length .exit) ≡ turnsAnswer count (now (image .entry)) (now (out .entry)) .length)
         × (now (busy .exit) ≡ turnsAnswer count (now (image .entry)) (now (out .entry)) .busy)
-        × (now (out .exit) ≡ turnsOutput count (now (image .entry)) (now (out .entry))) ⌝ }
+        × (now (out .exit) ≡ turnsOutput count (now (image .entry)) (now (out .entry)))
+        × Bytes (now (image .entry)) ⌝ }
 {
     let turned = monitor::turns(image, count, out);
     *length = turned.length;
@@ -57,7 +62,8 @@ pub extern "C" fn rithennaw_view(
 ) -> u8
     ensures { λ r. ⌜ (r ≡ viewAnswer observer (now (image .entry)) (now (out .entry)) .number)
         × (now (length .exit) ≡ viewAnswer observer (now (image .entry)) (now (out .entry)) .length)
-        × (now (out .exit) ≡ viewOutput observer (now (image .entry)) (now (out .entry))) ⌝ }
+        × (now (out .exit) ≡ viewOutput observer (now (image .entry)) (now (out .entry)))
+        × Bytes (now (image .entry)) ⌝ }
 {
     let viewed = monitor::view(image, observer, out);
     *length = viewed.length;
@@ -74,7 +80,8 @@ pub extern "C" fn rithennaw_sheet(
 ) -> u8
     ensures { λ r. ⌜ (r ≡ sheetAnswer observer (now (image .entry)) (now (out .entry)) .number)
         × (now (length .exit) ≡ sheetAnswer observer (now (image .entry)) (now (out .entry)) .length)
-        × (now (out .exit) ≡ sheetOutput observer (now (image .entry)) (now (out .entry))) ⌝ }
+        × (now (out .exit) ≡ sheetOutput observer (now (image .entry)) (now (out .entry)))
+        × Bytes (now (image .entry)) ⌝ }
 {
     let listed = sheet::write(image, observer, out);
     *length = listed.length;

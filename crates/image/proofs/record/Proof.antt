@@ -7,8 +7,7 @@ use Rattle.image.proofs.record.Tie as tie
 returns : tie.Need-returns
 returns c =
     let extent = c .before .before .record-extent .ensures in
-    let dropped = c .before .drop .ensures in
-    (
+    let dropped = c .before .drop .ensures in (
       rw (← extent-told, ← extent, ← dropped .0) (c .take .ensures .0),
       rw (← extent-begins, ← extent) (c .take .ensures .1 ∙ dropped .1),
     )

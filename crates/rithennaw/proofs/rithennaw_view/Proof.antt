@@ -1,11 +1,18 @@
 -- `rithennaw::rithennaw_view` meets its contract: number and length are those of the answer.
 use borrow.Author.Needs.{needs}
 use mathlib.Core.Path.{refl}
+use denote.Ref.{now}
+use Rattle.wire.specs.Lists.{IsByte}
+use Rattle.wire.proofs.Lists.{every-of}
 use Rattle.rithennaw.proofs.rithennaw_view.Statement.{statement}
 use Rattle.rithennaw.proofs.rithennaw_view.Tie as tie
 
 returns : tie.Need-returns
-returns c = let r = c .before .before .view in rw (r .ensures .0) (refl, refl, r .ensures .1)
+returns c =
+    let r = c .before .before .view in
+    let k = c .before .before .before .before .before in
+    let bytes = every-of IsByte 0 (now (k .before .args .image)) (λ i. k .shared-slice-known .given i .fits) in
+    rw (r .ensures .0) (refl, refl, r .ensures .1, bytes)
 
 pub rithennaw-view-spec : {M : Type 1} → statement M
 rithennaw-view-spec = tie.close (tie.spec (λ c κs. tt) (λ c. search needs) returns)

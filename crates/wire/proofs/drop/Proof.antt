@@ -1,5 +1,5 @@
 -- `wire::drop` meets its contract: the rest of the list, and nothing past its end.
-use Prim.Native.Nat.{ℕ, min}
+use Prim.Native.Nat.{min}
 use borrow.Author.Needs.{needs}
 use mathlib.Core.Path.{_≡_, refl, sym, _∙_}
 use native.Mathlib.Omega.{arith}

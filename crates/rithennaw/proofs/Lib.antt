@@ -1,0 +1,2 @@
+-- The laws of the crate `rithennaw`, a file each.
+pub mod Promises
