@@ -51,7 +51,9 @@ check: ## prove what has changed since the last check
 test: ## the whole gate: every test, then every proof from nothing and every must-fail edit
 	@$(RT) fmt --check
 	@tools/check-claims
+	@tools/check-contracts
 	@tools/check-version
+	@tests/claims/run
 	@tests/progress/run
 	@$(MAKE) -B all
 	@$(MAKE) link-test rust-test examples
