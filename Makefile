@@ -48,7 +48,9 @@ check: ## prove what has changed since the last check
 
 # Quick checks first. Then archive and slotsheet are built once, where rt decides what has changed and not file times
 # (-B), and tested. rt ci is last: it removes target/, proves all from nothing, and its count has to be the last line.
+# tools/tested keeps the hashes of what was tested, for make install; they count once all has passed.
 test: ## the whole gate: every test, then every proof from nothing and every must-fail edit
+	@tools/tested forget
 	@$(RT) fmt --check
 	@tools/check-claims
 	@tools/check-contracts
@@ -56,8 +58,11 @@ test: ## the whole gate: every test, then every proof from nothing and every mus
 	@tests/claims/run
 	@tests/progress/run
 	@$(MAKE) -B all
+	@tools/tested note $(archive) $(slotsheet)
 	@$(MAKE) link-test rust-test examples
+	@tools/tested unchanged
 	@$(prove) ci
+	@tools/tested pass
 
 link-test: $(archive) ## link the archive into C programs, run them, and measure the stack of a call
 	@tests/link/run
@@ -91,6 +96,7 @@ install: all ## install header, archive, pkg-config file and slotsheet below PRE
 	sed -e 's|@PREFIX@|$(prefix)|' -e 's|@VERSION@|$(VERSION)|' rithennaw.pc.in >$(call below,lib/pkgconfig/rithennaw.pc)
 	chmod 644 $(call below,lib/pkgconfig/rithennaw.pc)
 	install -m 755 $(slotsheet) $(call below,bin/slotsheet)
+	@tools/tested compare $(archive) $(slotsheet)
 
 uninstall: ## remove what install put there
 	rm -f $(foreach file,$(installed),$(call below,$(file)))
