@@ -18,8 +18,9 @@ archive := target/staticlib/librithennaw.a
 slotsheet := target/bin/slotsheet
 # What the two are proved from. The folders are listed too, so that a file that was removed is noticed.
 sources := crates.txt $(shell find crates -name must-fail -prune -o -print)
-# rt, with a line for each crate and each edit that is done.
-prove := tools/progress $(RT)
+# rt, with a line for each crate and each edit that is done. That there is one is looked at where it is called and not by a
+# target of its own, since what is built already needs none.
+prove := tools/check-kit && tools/progress $(RT)
 # No package of another's is used, so cargo needs no network. Of make's -j it would only say that it cannot share it.
 cargo := MAKEFLAGS= MFLAGS= $(CARGO) --offline --locked
 cargo_words := --release --manifest-path rust/Cargo.toml
@@ -51,11 +52,13 @@ check: ## prove what has changed since the last check
 # tools/tested keeps the hashes of what was tested, for make install; they count once all has passed.
 test: ## the whole gate: every test, then every proof from nothing and every must-fail edit
 	@tools/tested forget
+	@tools/check-kit
 	@$(RT) fmt --check
 	@tools/check-claims
 	@tools/check-contracts
 	@tools/check-version
 	@tests/claims/run
+	@tests/kit/run
 	@tests/progress/run
 	@$(MAKE) -B all
 	@tools/tested note $(archive) $(slotsheet)
@@ -102,7 +105,7 @@ uninstall: ## remove what install put there
 	rm -f $(foreach file,$(installed),$(call below,$(file)))
 
 fmt: ## lay out every source that is proved
-	@$(RT) fmt
+	@tools/check-kit && $(RT) fmt
 
 clean: ## remove what was built
 	@rm -rf target build rust/target
