@@ -59,6 +59,7 @@ test: ## the whole gate: every test, then every proof from nothing and every mus
 	@tools/check-version
 	@tests/claims/run
 	@tests/kit/run
+	@tests/gate/run
 	@tests/progress/run
 	@$(MAKE) -B all
 	@tools/tested note $(archive) $(slotsheet)
