@@ -18,8 +18,9 @@ archive := target/staticlib/librithennaw.a
 slotsheet := target/bin/slotsheet
 # What the two are proved from. The folders are listed too, so that a file that was removed is noticed.
 sources := crates.txt $(shell find crates -name must-fail -prune -o -print)
-# rt, with a line for each crate and each edit that is done.
-prove := tools/progress $(RT)
+# rt, with a line for each crate and each edit that is done. That there is one is looked at where it is called and not by a
+# target of its own, since what is built already needs none.
+prove := tools/check-kit && tools/progress $(RT)
 # No package of another's is used, so cargo needs no network. Of make's -j it would only say that it cannot share it.
 cargo := MAKEFLAGS= MFLAGS= $(CARGO) --offline --locked
 cargo_words := --release --manifest-path rust/Cargo.toml
@@ -48,14 +49,24 @@ check: ## prove what has changed since the last check
 
 # Quick checks first. Then archive and slotsheet are built once, where rt decides what has changed and not file times
 # (-B), and tested. rt ci is last: it removes target/, proves all from nothing, and its count has to be the last line.
+# tools/tested keeps the hashes of what was tested, for make install; they count once all has passed.
 test: ## the whole gate: every test, then every proof from nothing and every must-fail edit
+	@tools/tested forget
+	@tools/check-kit
 	@$(RT) fmt --check
 	@tools/check-claims
+	@tools/check-contracts
 	@tools/check-version
+	@tests/claims/run
+	@tests/kit/run
+	@tests/gate/run
 	@tests/progress/run
 	@$(MAKE) -B all
+	@tools/tested note $(archive) $(slotsheet)
 	@$(MAKE) link-test rust-test examples
+	@tools/tested unchanged
 	@$(prove) ci
+	@tools/tested pass
 
 link-test: $(archive) ## link the archive into C programs, run them, and measure the stack of a call
 	@tests/link/run
@@ -89,12 +100,13 @@ install: all ## install header, archive, pkg-config file and slotsheet below PRE
 	sed -e 's|@PREFIX@|$(prefix)|' -e 's|@VERSION@|$(VERSION)|' rithennaw.pc.in >$(call below,lib/pkgconfig/rithennaw.pc)
 	chmod 644 $(call below,lib/pkgconfig/rithennaw.pc)
 	install -m 755 $(slotsheet) $(call below,bin/slotsheet)
+	@tools/tested compare $(archive) $(slotsheet)
 
 uninstall: ## remove what install put there
 	rm -f $(foreach file,$(installed),$(call below,$(file)))
 
 fmt: ## lay out every source that is proved
-	@$(RT) fmt
+	@tools/check-kit && $(RT) fmt
 
 clean: ## remove what was built
 	@rm -rf target build rust/target
