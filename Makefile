@@ -55,7 +55,6 @@ test: ## the whole gate: every test, then every proof from nothing and every mus
 	@tools/check-kit
 	@$(RT) fmt --check
 	@tools/check-claims
-	@tools/check-contracts
 	@tools/check-version
 	@tests/claims/run
 	@tests/kit/run
