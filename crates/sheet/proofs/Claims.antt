@@ -1,10 +1,11 @@
 -- The claims of specs/Claims.antt hold.
 use mathlib.Core.Path.{_≡_, refl, sym, ap, _∙_}
+use native.Mathlib.Omega.{arith}
 use lib.Dec.{leb}
 use Rattle.machine.specs.State.{State}
 use Rattle.image.specs.Refusal.{unless}
 use Rattle.monitor.specs.CallList.{finalImage}
-use Rattle.monitor.proofs.Calls.{observer-listed, answer-same, written-same}
+use Rattle.monitor.proofs.Calls.{observer-listed, limit-exactly, answer-same, written-same}
 use Rattle.monitor.proofs.Secrecy.{equal-bytes, states-same}
 use Rattle.monitor.proofs.Claims.{secrecy}
 use Rattle.sheet.specs.Sheet.{sheetText, sheetCall}
@@ -12,7 +13,9 @@ use Rattle.sheet.specs.Claims.{SheetNumbersAreListed, SheetLength, Sheet
 use Rattle.sheet.proofs.Sheet.{sheet-fits}
 
 pub sheet-numbers-are-listed : SheetNumbersAreListed
-sheet-numbers-are-listed v image out = observer-listed (sheetCall v image) image out v refl
+sheet-numbers-are-listed v image out =
+    let listed = observer-listed (sheetCall v image) image out v refl in
+    (listed .0, listed .1, limit-exactly (sheetCall v image) image out v 15 1 refl (omega arith) (omega arith))
 
 pub sheets-fit : SheetLength
 sheets-fit v image a = sheet-fits v image (a .bytes) (a .number)
