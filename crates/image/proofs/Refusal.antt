@@ -41,6 +41,11 @@ module _ (P : ℕ → Type 0) where
   unless-holds true x z h = z
   unless-holds false x z h = h
 
+-- a test that gives its number fails
+pub unless-given : (t : Bool) (x : ℕ) → 1 ≤ x → unless t x ≡ x → t ≡ false
+unless-given true x some e = absurd (omega arith)
+unless-given false x some e = refl
+
 -- ---- the numbers of an image
 
 -- 0, or one of 3 to 12
@@ -67,11 +72,6 @@ listed-short n b = listed-unless (leb n (length b)) 3 (omega arith) (omega arith
 pub unless-none : (t : Bool) (k : ℕ) → unless t (suc k) ≡ 0 → t ≡ true
 unless-none true k e = refl
 unless-none false k e = absurd (suc-ne-zero k e)
-
--- and one that gives its number fails
-pub unless-given : (t : Bool) (x : ℕ) → 1 ≤ x → unless t x ≡ x → t ≡ false
-unless-given true x some e = absurd (omega arith)
-unless-given false x some e = refl
 
 pub short-none : (n : ℕ) (b : List ℕ) → short n b ≡ 0 → n ≤ length b
 short-none n b e = leb-true n (length b) (unless-none (leb n (length b)) 2 e)

@@ -52,6 +52,10 @@ then-output zero zero false argument listed e = (refl, refl, refl)
 then-output zero (suc i) t argument listed e = absurd (omega arith)
 then-output (suc a) i t argument listed e = absurd (omega arith)
 
+-- an observer has number 0 or 1
+pub observer-low : (v : ℕ) → unless (leb v 15) 1 ≤ 2
+observer-low v = unless-holds (λ x. x ≤ 2) (leb v 15) 1 (omega arith) (omega arith)
+
 -- ---- a call by its number
 
 module _ (c : Call) (image out : List ℕ) where
@@ -83,7 +87,7 @@ module _ (c : Call) (image out : List ℕ) where
   )
 
   -- 1 and 2 come from the argument
-  pub argument-exactly : (k : ℕ) → 1 ≤ k → k ≤ 2 → Exactly (callAnswer c image out .number ≡ k) (c .argumentNumber ≡ k)
+  argument-exactly : (k : ℕ) → 1 ≤ k → k ≤ 2 → Exactly (callAnswer c image out .number ≡ k) (c .argumentNumber ≡ k)
   argument-exactly k low high = (
     λ e. then-argument (c .argumentNumber) (imageNumber image) fits k (image-listed image) low high (sym first-met ∙ e),
     λ e. first-met ∙ rw e (then-stop k (λ z. omega arith) _),
@@ -124,8 +128,8 @@ module _ (c : Call) (image out : List ℕ) where
   output-accepted e = rw (sym answer-number ∙ e)
 
   -- of bytes, number 0 tells an accepted image
-  pub told-accepted : Bytes image → callAnswer c image out .number ≡ 0 → Accepted image
-  told-accepted bytes e = record { bytes = bytes; number = accepted-exactly .0 e .1 }
+  pub number-0-accepted : {number : ℕ} → number ≡ callAnswer c image out .number → Bytes image → number ≡ 0 → Accepted image
+  number-0-accepted told bytes none = record { bytes = bytes; number = accepted-exactly .0 (sym told ∙ none) .1 }
 
   -- a call that runs no turn tells busy count 0
   pub busy-0 : c .busy ≡ 0 → callAnswer c image out .busy ≡ 0

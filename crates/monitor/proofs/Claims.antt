@@ -20,7 +20,7 @@ use Rattle.image.proofs.Image.{extent-none, extent-some, extent-told, extent-wi
 use Rattle.monitor.specs.Calls.{rewriteCall, turnsCall, viewCall}
 use Rattle.monitor.specs.Claims.{NumbersAreListed, LimitsAreRefused, NoneInAnyOtherEvent, OthersAreAccepted, CallsWriteTheirAnswer, RecordIsItsPart}
 use Rattle.monitor.specs.Claims.{ImageLengths, ReadThenWrite, WriteThenRead, ViewIsAccepted, ViewFor15, Secrecy, EqualViewsAreEqualBytes}
-use Rattle.monitor.proofs.Calls.{accepted-exactly, numbers-by-cause, limit-exactly, output-accepted, writes-its-answer, number-holds, observer-listed}
+use Rattle.monitor.proofs.Calls.{accepted-exactly, numbers-by-cause, observer-low, limit-exactly, output-accepted, writes-its-answer, number-holds, observer-listed}
 use Rattle.monitor.proofs.Secrecy as Secrecy
 use Rattle.monitor.proofs.Secrecy.{read-valid, rewritten, written-accepted, equal-bytes, equal-views}
 
@@ -45,7 +45,11 @@ limits-are-refused image out = (
 )
 
 pub none-in-any-other-event : NoneInAnyOtherEvent
-none-in-any-other-event c low image out = numbers-by-cause c image out low
+none-in-any-other-event image out = (
+  numbers-by-cause (rewriteCall image) image out (omega arith),
+  λ n. numbers-by-cause (turnsCall n image) image out (unless-holds (λ x. x ≤ 2) (leb n 1000000) 2 (omega arith) (omega arith)),
+  λ v. numbers-by-cause (viewCall v image) image out (observer-low v),
+)
 
 -- a valid state's image has at most 7,796 bytes
 room : (s : State) → Valid s → (out : List ℕ) → 7796 ≤ length out → length (imageBytes s) ≤ length out

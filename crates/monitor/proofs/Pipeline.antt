@@ -19,11 +19,16 @@ use Rattle.monitor.proofs.Calls.{call-refused}
 
 -- ---- loaded
 
+-- the table holds a state with this program and turn slot
+state-in : (words : List ℕ) {program : List ℕ} {turnSlot : ℕ} (s : State) → program ≡ s .program → turnSlot ≡ s .turnSlot → slotsIn words ≡ s .slots
+    → stateIn program turnSlot words ≡ s
+state-in words s e f g = λ i. record { program = e i; turnSlot = f i; slots = g i }
+
 -- what was loaded, with the image's program and turn slot, is the image's state
 pub state-loaded : (image words program : List ℕ) (s : ℕ) → program ≡ programOf image → s ≡ turnSlotOf image → slotsIn words ≡ stateOf image .slots
     → stateIn program s words ≡ stateOf image
 unfolding stateOf
-state-loaded image words program s e f g = rw (e, f, g)
+state-loaded image words program s e f g = state-in words (stateOf image) e f g
 
 -- and so it is valid, which turns rest on
 pub loaded-valid : (image : List ℕ) → Bytes image → imageNumber image ≡ 0 → {s : State} → s ≡ stateOf image → Valid s
@@ -36,9 +41,7 @@ module _ (image words : List ℕ) where
   snapshot-is : (v : ℕ) (s : State) → s .program ≡ programOf image → slotsIn words ≡ s .slots
       → snapshotBytes words image (s .turnSlot) v ≡ imageBytes (view v s)
   unfolding snapshotBytes
-  snapshot-is v s program slots =
-      let same : stateIn (programOf image) (s .turnSlot) words ≡ s = λ i. record { program = sym program i; turnSlot = s .turnSlot; slots = slots i } in
-      ap (λ (r : State). imageBytes (view v r)) same
+  snapshot-is v s program slots = ap (λ (r : State). imageBytes (view v r)) (state-in words s (sym program) refl slots)
 
   -- loaded, and nothing done
   pub view-written : (v : ℕ) → slotsIn words ≡ stateOf image .slots → snapshotBytes words image (turnSlotOf image) v ≡ viewBytes v image

@@ -6,7 +6,7 @@ use denote.Ref.{now, ptr}
 use Rattle.wire.specs.Slices.{offsetBy}
 use Rattle.monitor.specs.Calls.{recordAnswer, extentAnswer, refusal, rewriteAnswer, rewriteOutput, turnsAnswer, turnsOutput, TurnsPromise, ViewPromise}
 use Rattle.monitor.specs.CallList.{TurnCall, imageAfter, KeptPromises}
-use Rattle.monitor.proofs.Keeps.{Keeps, imageOf, slotOf, countOf, observerOf, outputOf, soleOutputOf}
+use Rattle.monitor.proofs.Keeps.{Keeps, imageOf, slotNumberOf, countOf, observerOf, outputOf, soleOutputOf, numberOf}
 use Rattle.monitor.proofs.record as Record
 use Rattle.monitor.proofs.record.Symbol as RecordCode
 use Rattle.monitor.proofs.record.Met as RecordMet
@@ -26,18 +26,16 @@ use Rattle.monitor.proofs.view as View
 use Rattle.monitor.proofs.view.Symbol as ViewCode
 use Rattle.monitor.proofs.view.Met as ViewMet
 
--- each law is the function's own theorem, held to the type that is written here: with another promise, or with a
--- precondition, the two types would differ. a are the arguments, r is the result, and e are the arguments at the end
 module _ {M : Type 1} where
   pub record-keeps : Keeps M Record.ended RecordCode.routine
-      (λ κs a r e. (now r ≡ recordAnswer (now (imageOf a)) (slotOf a))
-      × (ptr r ≡ offsetBy (extentAnswer (now (imageOf a)) (slotOf a) .start) (ptr (imageOf a))))
+      (λ κs a r e. (now r ≡ recordAnswer (now (imageOf a)) (slotNumberOf a))
+      × (ptr r ≡ offsetBy (extentAnswer (now (imageOf a)) (slotNumberOf a) .start) (ptr (imageOf a))))
   record-keeps = RecordMet.met
 
-  pub record-extent-keeps : Keeps M RecordExtent.ended RecordExtentCode.routine (λ κs a r e. r ≡ extentAnswer (now (imageOf a)) (slotOf a))
+  pub record-extent-keeps : Keeps M RecordExtent.ended RecordExtentCode.routine (λ κs a r e. r ≡ extentAnswer (now (imageOf a)) (slotNumberOf a))
   record-extent-keeps = RecordExtentMet.met
 
-  pub refused-keeps : Keeps M Refused.ended RefusedCode.routine (λ κs a r e. r ≡ refusal (a .0))
+  pub refused-keeps : Keeps M Refused.ended RefusedCode.routine (λ κs a r e. r ≡ refusal (numberOf a))
   refused-keeps = RefusedMet.met
 
   pub rewrite-keeps : Keeps M Rewrite.ended RewriteCode.routine

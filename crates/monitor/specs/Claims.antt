@@ -12,8 +12,8 @@ use Rattle.image.specs.Record.{recordBytes}
 use Rattle.image.specs.declared.Extent.{Extent}
 use Rattle.image.specs.Image.{imageNumber, stateOf, imageBytes, recordStart}
 use Rattle.monitor.specs.declared.Answer.{Answer}
-use Rattle.monitor.specs.Calls.{recordAnswer, extentAnswer, Call, callAnswer, callOutput, rewriteAnswer, rewriteOutput}
-use Rattle.monitor.specs.Calls.{turnsAnswer, viewBytes, viewAnswer, ViewPromise}
+use Rattle.monitor.specs.Calls.{recordAnswer, extentAnswer, Call, callAnswer, callOutput, rewriteCall, rewriteAnswer, rewriteOutput}
+use Rattle.monitor.specs.Calls.{turnsCall, turnsAnswer, viewBytes, viewCall, viewAnswer, ViewPromise}
 use Rattle.monitor.specs.CallList.{TurnCall, finalImage, turnsCarriedOut, KeptPromises}
 
 -- an accepted image: bytes whose number is 0
@@ -52,7 +52,11 @@ pub record NumbersByCause (c : Call) (image out : List ℕ) : Type 0 where
   pub fromOutput : Exactly (callAnswer c image out .number ≡ 13) ((c .argumentNumber ≡ 0) × (imageNumber image ≡ 0) × (length out < length (c .bytes)))
 
 abbrev pub NoneInAnyOtherEvent : Type 0
-NoneInAnyOtherEvent = (c : Call) → c .argumentNumber ≤ 2 → (image out : List ℕ) → NumbersByCause c image out
+NoneInAnyOtherEvent =
+    (image out : List ℕ)
+    → NumbersByCause (rewriteCall image) image out
+    × ((n : ℕ) → NumbersByCause (turnsCall n image) image out)
+    × ((v : ℕ) → NumbersByCause (viewCall v image) image out)
 
 -- "1,000,000 turns accepted"; an output of 7,796 bytes is long enough for every call
 abbrev pub OthersAreAccepted : Type 0
@@ -142,5 +146,4 @@ abbrev pub EqualViewsAreEqualBytes : Type 0
 EqualViewsAreEqualBytes =
     (v : ℕ) → v ≤ 15
     → (image image′ : List ℕ) → Accepted image → Accepted image′
-    → (EqualViews v image image′ → viewBytes v image ≡ viewBytes v image′)
-    × (viewBytes v image ≡ viewBytes v image′ → EqualViews v image image′)
+    → Exactly (EqualViews v image image′) (viewBytes v image ≡ viewBytes v image′)

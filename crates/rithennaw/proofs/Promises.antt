@@ -1,16 +1,15 @@
 -- The claims are about the C functions: the code of each, called with any arguments, keeps its promise, and what it told and
 -- wrote is a call as the claims take it.
 use Prim.Native.Nat.{ℕ}
-use mathlib.Core.Path.{_≡_, refl, sym, _∙_}
+use mathlib.Core.Path.{_≡_, refl, sym}
 use mathlib.Core.List.{List}
 use denote.Ref.{now}
 use Rattle.wire.specs.Lists.{Bytes}
 use Rattle.monitor.specs.declared.Answer.{Answer}
 use Rattle.monitor.specs.Calls.{Call, callAnswer, extentAnswer, rewriteAnswer, rewriteOutput, turnsAnswer, turnsOutput, TurnsPromise}
 use Rattle.monitor.specs.Calls.{viewCall, viewAnswer, viewOutput, ViewPromise}
-use Rattle.monitor.specs.Claims.{Accepted}
-use Rattle.monitor.proofs.Calls.{told-accepted, busy-0}
-use Rattle.monitor.proofs.Keeps.{Keeps, imageOf, slotOf, countOf, observerOf, outputOf, soleOutputOf}
+use Rattle.monitor.proofs.Calls.{busy-0}
+use Rattle.monitor.proofs.Keeps.{Keeps, imageOf, slotNumberOf, countOf, observerOf, outputOf, soleOutputOf}
 use Rattle.sheet.specs.Sheet.{sheetCall, sheetAnswer, sheetOutput, SheetPromise}
 use Rattle.rithennaw.proofs.rithennaw_record as Record
 use Rattle.rithennaw.proofs.rithennaw_record.Symbol as RecordCode
@@ -66,13 +65,10 @@ SheetTold v image out = Told (sheetAnswer v image out) (sheetOutput v image out)
 abbrev pub RewriteTold : List ℕ → List ℕ → ℕ → ℕ → List ℕ → Type 0
 RewriteTold image out = Told (rewriteAnswer image out) (rewriteOutput image out) image
 
--- each law is the function's own theorem, held to the type that is written here: with another promise, or with a
--- precondition, the two types would differ. a are the arguments, r is the result, and e are the arguments at the end
 module _ {M : Type 1} where
   pub rithennaw-record-keeps : Keeps M Record.ended RecordCode.routine
-      (λ κs a r e. (now (startOf e) ≡ extentAnswer (now (imageOf a)) (slotOf a) .start)
-      × (now (lengthOf e) ≡ extentAnswer (now (imageOf a)) (slotOf a) .length)
-      × Bytes (now (imageOf a)))
+      (λ κs a r e. (now (startOf e) ≡ extentAnswer (now (imageOf a)) (slotNumberOf a) .start)
+      × (now (lengthOf e) ≡ extentAnswer (now (imageOf a)) (slotNumberOf a) .length))
   rithennaw-record-keeps = RecordMet.met
 
   pub rithennaw-rewrite-keeps : Keeps M Rewrite.ended RewriteCode.routine
@@ -91,11 +87,8 @@ module _ {M : Type 1} where
       (λ κs a r e. SheetTold (observerOf a) (now (imageOf a)) (now (outputOf a)) r (now (lengthOf e)) (now (outputOf e)))
   rithennaw-sheet-keeps = SheetMet.met
 
--- ---- from what they told to the promises that the claims are about
-
--- number 0 from any of them tells that the image is accepted
-pub image-accepted : (c : Call) (image out : List ℕ) {number : ℕ} → number ≡ callAnswer c image out .number → Bytes image → number ≡ 0 → Accepted image
-image-accepted c image out told bytes none = told-accepted c image out bytes (sym told ∙ none)
+-- ---- from what they told to the promises that the claims are about. That number 0 from one of them tells an accepted image is
+-- monitor's law `number-0-accepted`, since each that tells a number promises that the image is bytes
 
 -- number, length and busy count are the answer
 pub turns-promise : (n : ℕ) (image out : List ℕ) {number length busy : ℕ} {after : List ℕ} → TurnsTold n image out number length busy after

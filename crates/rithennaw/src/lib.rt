@@ -1,6 +1,6 @@
 // The C interface, which include/rithennaw.h declares: each function hands its arguments to a call of the monitor or the
-// sheet's, and what the call tells to the caller. A `&[u8]` is a pointer and then a length. Each promises as well that what it
-// was lent as the image are bytes: with number 0 that makes an accepted image.
+// sheet's, and what the call tells to the caller. A `&[u8]` is a pointer and then a length. Each that tells
+// a number promises as well that what it was lent as the image is bytes: with number 0 that makes an accepted image.
 ghost use mathlib.Core.Path.{_≡_};
 ghost use Rattle.wire.specs.Lists.{Bytes};
 ghost use Rattle.monitor.specs.Calls.{extentAnswer, rewriteAnswer, rewriteOutput, turnsAnswer, turnsOutput, viewAnswer, viewOutput};
@@ -10,8 +10,7 @@ ghost use Rattle.sheet.specs.Sheet.{sheetAnswer, sheetOutput};
 #[no_mangle]
 pub extern "C" fn rithennaw_record(image: &[u8], slot: u32, start: &mut usize, length: &mut usize)
     ensures { λ _. ⌜ (now (start .exit) ≡ extentAnswer (now (image .entry)) slot .start)
-        × (now (length .exit) ≡ extentAnswer (now (image .entry)) slot .length)
-        × Bytes (now (image .entry)) ⌝ }
+        × (now (length .exit) ≡ extentAnswer (now (image .entry)) slot .length) ⌝ }
 {
     let extent = monitor::record_extent(image, slot);
     *start = extent.start;

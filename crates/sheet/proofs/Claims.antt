@@ -5,17 +5,21 @@ use lib.Dec.{leb}
 use Rattle.machine.specs.State.{State}
 use Rattle.image.specs.Refusal.{unless}
 use Rattle.monitor.specs.CallList.{finalImage}
-use Rattle.monitor.proofs.Calls.{observer-listed, limit-exactly, answer-same, written-same}
+use Rattle.monitor.proofs.Calls.{observer-listed, observer-low, numbers-by-cause, limit-exactly, answer-same, written-same}
 use Rattle.monitor.proofs.Secrecy.{equal-bytes, states-same}
 use Rattle.monitor.proofs.Claims.{secrecy}
 use Rattle.sheet.specs.Sheet.{sheetText, sheetCall}
-use Rattle.sheet.specs.Claims.{SheetNumbersAreListed, SheetLength, SheetsFollowViews, SheetSecrecy}
+use Rattle.sheet.specs.Claims.{SheetNumbersAreListed, SheetLimitIsRefused, SheetNumbersByCause, SheetLength, SheetsFollowViews, SheetSecrecy}
 use Rattle.sheet.proofs.Sheet.{sheet-fits}
 
 pub sheet-numbers-are-listed : SheetNumbersAreListed
-sheet-numbers-are-listed v image out =
-    let listed = observer-listed (sheetCall v image) image out v refl in
-    (listed .0, listed .1, limit-exactly (sheetCall v image) image out v 15 1 refl (omega arith) (omega arith))
+sheet-numbers-are-listed v image out = observer-listed (sheetCall v image) image out v refl
+
+pub sheet-limit-is-refused : SheetLimitIsRefused
+sheet-limit-is-refused v image out = limit-exactly (sheetCall v image) image out v 15 1 refl (omega arith) (omega arith)
+
+pub sheet-numbers-by-cause : SheetNumbersByCause
+sheet-numbers-by-cause v image out = numbers-by-cause (sheetCall v image) image out (observer-low v)
 
 pub sheets-fit : SheetLength
 sheets-fit v image a = sheet-fits v image (a .bytes) (a .number)

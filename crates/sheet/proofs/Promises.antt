@@ -4,7 +4,7 @@ use mathlib.Core.Path.{_≡_}
 use denote.Ref.{now}
 use lib.ListN.{length}
 use Rattle.wire.specs.Output.{overwrite}
-use Rattle.monitor.proofs.Keeps.{Keeps, imageOf, observerOf, outputOf, soleOutputOf}
+use Rattle.monitor.proofs.Keeps.{Keeps, imageOf, observerOf, outputOf, soleOutputOf, inputOf}
 use Rattle.sheet.specs.Sheet.{SheetPromise, printed}
 use Rattle.sheet.proofs.write as Write
 use Rattle.sheet.proofs.write.Symbol as WriteCode
@@ -13,15 +13,13 @@ use Rattle.sheet.proofs.print as Print
 use Rattle.sheet.proofs.print.Symbol as PrintCode
 use Rattle.sheet.proofs.print.Met as PrintMet
 
--- a are the arguments, r is the result, and e are the arguments at the end
 module _ {M : Type 1} where
   pub write-keeps : Keeps M Write.ended WriteCode.routine
       (λ κs a r e. SheetPromise (observerOf a) (now (imageOf a)) (now (outputOf a)) r (now (outputOf e)))
   write-keeps = WriteMet.met
 
-  -- the input of the program stands where a call has its image
   pub print-keeps : Keeps M Print.ended PrintCode.routine
-      (λ κs a r e. (r ≡ length (printed (now (imageOf a))))
+      (λ κs a r e. (r ≡ length (printed (now (inputOf a))))
       × (r ≤ 318)
-      × (now (soleOutputOf e) ≡ overwrite (printed (now (imageOf a))) (now (soleOutputOf a))))
+      × (now (soleOutputOf e) ≡ overwrite (printed (now (inputOf a))) (now (soleOutputOf a))))
   print-keeps = PrintMet.met

@@ -9,19 +9,23 @@ use Rattle.image.specs.Image.{imageBytes}
 use Rattle.monitor.specs.declared.Answer.{Answer}
 use Rattle.monitor.specs.Calls.{viewBytes}
 use Rattle.monitor.specs.CallList.{TurnCall, finalImage, turnsCarriedOut, KeptPromises}
-use Rattle.monitor.specs.Claims.{Accepted, Exactly}
+use Rattle.monitor.specs.Claims.{Accepted, Exactly, NumbersByCause}
 use Rattle.monitor.specs.Examples.{b, receiver}
 use Rattle.sheet.specs.Text.{ascii}
-use Rattle.sheet.specs.Sheet.{sheetBytes, sheetAnswer, SheetPromise, printed}
+use Rattle.sheet.specs.Sheet.{sheetBytes, sheetCall, sheetAnswer, SheetPromise, printed}
 
--- the sheet's call tells 0, or a number of the table other than 2, and 1 exactly where the observer is above 15. What is
--- claimed of every call that writes, what gives each number and what it then writes, is monitor's
+-- the sheet's call tells 0, or a number of the table other than 2. What is claimed of every call that writes, what it then
+-- writes, is monitor's
 abbrev pub SheetNumbersAreListed : Type 0
-SheetNumbersAreListed =
-    (v : ℕ) (image out : List ℕ)
-    → (sheetAnswer v image out .number ≤ 13)
-    × (sheetAnswer v image out .number ≢ 2)
-    × Exactly (sheetAnswer v image out .number ≡ 1) (15 < v)
+SheetNumbersAreListed = (v : ℕ) (image out : List ℕ) → (sheetAnswer v image out .number ≤ 13) × (sheetAnswer v image out .number ≢ 2)
+
+-- 1 exactly where the observer is above 15
+abbrev pub SheetLimitIsRefused : Type 0
+SheetLimitIsRefused = (v : ℕ) (image out : List ℕ) → Exactly (sheetAnswer v image out .number ≡ 1) (15 < v)
+
+-- each number by what gives it, as of the other calls that write
+abbrev pub SheetNumbersByCause : Type 0
+SheetNumbersByCause = (v : ℕ) (image out : List ℕ) → NumbersByCause (sheetCall v image) image out
 
 -- an output of 318 bytes is long enough for every sheet
 abbrev pub SheetLength : Type 0

@@ -5,5 +5,5 @@ use Rattle.machine.specs.Machine.{turns, busy}
 use Rattle.turn.specs.declared.RunAnswer.{RunAnswer}
 
 -- of n turns of a state: the slot whose turn is next, and the turns that met a live task
-abbrev pub turnsTold : ℕ → State → RunAnswer
-turnsTold n state = record { turn = turns n state .turnSlot; busy = busy n state }
+abbrev pub runTold : ℕ → State → RunAnswer
+runTold n state = record { turn = turns n state .turnSlot; busy = busy n state }

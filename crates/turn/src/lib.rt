@@ -13,7 +13,7 @@ ghost use Rattle.machine.specs.Machine.{turns, busy};
 ghost use Rattle.table.specs.Table.{slotsIn, stateIn};
 ghost use Rattle.table.specs.Change.{taskAt, messageAt, change, withoutMessage};
 ghost use Rattle.turn.specs.Effects.{executed, RoomFor, Ready, WasDecoded, isGiven};
-ghost use Rattle.turn.specs.Answer.{turnsTold};
+ghost use Rattle.turn.specs.Answer.{runTold};
 use instruction::Decoded;
 use instruction::Instruction;
 
@@ -302,7 +302,7 @@ pub struct RunAnswer {
 // n turns of the tasks in the table, the first that of slot `first`.
 pub fn turns(table: &mut [u32; 3328], program: &[u8], first: u8, n: u64) -> RunAnswer
     requires { ⌜ Valid (stateIn (now program) first (now table)) ⌝ }
-    ensures { λ r. ⌜ (r ≡ turnsTold n (stateIn (now (program .entry)) first (now (table .entry))))
+    ensures { λ r. ⌜ (r ≡ runTold n (stateIn (now (program .entry)) first (now (table .entry))))
         × (slotsIn (now (table .exit)) ≡ turns n (stateIn (now (program .entry)) first (now (table .entry))) .slots) ⌝ }
 {
     let mut slot = first;

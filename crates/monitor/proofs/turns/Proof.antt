@@ -15,7 +15,7 @@ use Rattle.table.specs.Table.{stateIn}
 use Rattle.snapshot.specs.Writing.{snapshotBytes}
 use Rattle.snapshot.proofs.Loading.{loaded-accepted}
 use Rattle.turn.specs.declared.RunAnswer.{RunAnswer}
-use Rattle.turn.specs.Answer.{turnsTold}
+use Rattle.turn.specs.Answer.{runTold}
 use Rattle.monitor.proofs.Calls.{call-beyond, call-refused, call-accepted}
 use Rattle.monitor.proofs.Pipeline.{state-loaded, loaded-valid, turns-written}
 use Rattle.monitor.proofs.turns.Statement.{statement}
@@ -52,7 +52,7 @@ returns-2 c =
     let r = c .before .before .before .before .before .turns in
     let p = c .before .before .before .before .before .before in
     let n = p .before .before .before .before .before .before .before .before .before .args .count in
-    let told = r .ensures .0 ∙ ap (turnsTold n) (same p) in
+    let told = r .ensures .0 ∙ ap (runTold n) (same p) in
     let ran = r .ensures .1 ∙ ap (λ (s : State). Machine.turns n s .slots) (same p) in
     let written =
     ap (λ (x : RunAnswer). snapshotBytes (r .last .0) (image p) (x .turn) 15) told
