@@ -38,6 +38,9 @@ module _ (p : tie.After-program) where
       state-loaded image _ _ _ (p .program .ensures) (p .before .before .turn-slot .ensures)
       (p .before .before .before .before .load .ensures .1 ∙ loaded-accepted image _ accepted)
 
+turns-requires : tie.Need-turns-requires
+turns-requires c κs = loaded-valid (image c) (bytes c) (accepted c) (same c)
+
 -- ---- the answers
 
 -- more than 1,000,000 turns
@@ -75,7 +78,7 @@ turns-spec =
     (λ c κs. tt)
     (λ c κs. tt)
     (λ c κs. tt)
-    (λ c κs. loaded-valid (image c) (bytes c) (accepted c) (same c))
+    turns-requires
     (λ c κs. tt)
     (λ c κs. tt)
     (λ c. search needs)
