@@ -10,8 +10,9 @@ VERSION := $(shell cat VERSION)
 export RT
 # The gate tests the archive that is built here, whatever other one a user's Rust programs link.
 unexport RITHENNAW_LIB_DIR
-# cargo and rustc are often there for one user only, in a folder that not every shell looks into.
-export PATH := $(PATH):$(or $(CARGO_HOME),$(HOME)/.cargo)/bin
+# cargo and rustc are often there for one user only, in a folder that not every shell looks into. The values are taken as they
+# are: make would carry out what stands in them.
+export PATH := $(value PATH):$(or $(value CARGO_HOME),$(value HOME)/.cargo)/bin
 MAKEFLAGS += --no-print-directory
 
 archive := target/staticlib/librithennaw.a

@@ -26,10 +26,11 @@ echo "$*" >>steps
 END_OF_PROGRAM
 for name in $(grep -oE '(tools|tests|examples)/[a-z/-]+' "$root/Makefile" | sort -u); do
     case " $tried " in *" $name "*) continue ;; esac
-    printf '#!/bin/sh\nexec ./step %s\n' "$name" | program "$repository/$name"
+    printf '#!/bin/sh\nexec ./step %s "$@"\n' "$name" | program "$repository/$name"
 done
 
-# rt keeps in `environment` the names of the variables that it is given. It obeys RATTLE_HOME, as the kit's does.
+# rt keeps in `environment` the variables that it is given, and fails if there is standard input. It obeys RATTLE_HOME, as the
+# kit's does.
 program "$bin/rt" <<'END_OF_PROGRAM'
 #!/bin/sh
 [ -z "${RATTLE_HOME:-}" ] || { echo '999 passed, 0 failed'; exit 0; }
@@ -37,7 +38,8 @@ case $1 in
 version) exec cat version ;;
 ci) rm -rf target ;;
 esac
-env | sed 's/=.*//' >environment
+env >environment
+! read -r line || { echo 'rt: there is standard input'; exit 1; }
 ./step rt "$@" || { [ "$1" != ci ] || echo '7 passed, 1 failed'; exit 1; }
 case $1 in
 staticlib) mkdir -p target/staticlib && echo archive >target/staticlib/librithennaw.a ;;
