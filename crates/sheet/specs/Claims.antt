@@ -14,8 +14,8 @@ use Rattle.monitor.specs.Examples.{b, receiver}
 use Rattle.sheet.specs.Text.{ascii}
 use Rattle.sheet.specs.Sheet.{sheetBytes, sheetCall, sheetAnswer, SheetPromise, printed}
 
--- the sheet's call tells 0, or a number of the table other than 2. What is claimed of every call that writes, what it then
--- writes, is monitor's
+-- the sheet's call tells 0, or a number of the table other than 2. That it writes its answer and no more is monitor's claim about
+-- every call that writes
 abbrev pub SheetNumbersAreListed : Type 0
 SheetNumbersAreListed = (v : ℕ) (image out : List ℕ) → (sheetAnswer v image out .number ≤ 13) × (sheetAnswer v image out .number ≢ 2)
 
