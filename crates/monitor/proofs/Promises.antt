@@ -4,9 +4,13 @@ use mathlib.Core.Path.{_≡_, refl}
 use mathlib.Core.List.{List, [], _∷_}
 use denote.Ref.{now, ptr}
 use Rattle.wire.specs.Slices.{offsetBy}
+use Rattle.image.specs.Image.{imageNumber}
 use Rattle.monitor.specs.Calls.{recordAnswer, extentAnswer, refusal, rewriteAnswer, rewriteOutput, turnsAnswer, turnsOutput, TurnsPromise, ViewPromise}
 use Rattle.monitor.specs.CallList.{TurnCall, imageAfter, KeptPromises}
 use Rattle.monitor.proofs.Keeps.{Keeps, imageOf, slotNumberOf, countOf, observerOf, outputOf, soleOutputOf, numberOf}
+use Rattle.monitor.proofs.check as Check
+use Rattle.monitor.proofs.check.Symbol as CheckCode
+use Rattle.monitor.proofs.check.Met as CheckMet
 use Rattle.monitor.proofs.record as Record
 use Rattle.monitor.proofs.record.Symbol as RecordCode
 use Rattle.monitor.proofs.record.Met as RecordMet
@@ -27,6 +31,9 @@ use Rattle.monitor.proofs.view.Symbol as ViewCode
 use Rattle.monitor.proofs.view.Met as ViewMet
 
 module _ {M : Type 1} where
+  pub check-keeps : Keeps M Check.ended CheckCode.routine (λ κs a r e. r ≡ imageNumber (now (imageOf a)))
+  check-keeps = CheckMet.met
+
   pub record-keeps : Keeps M Record.ended RecordCode.routine
       (λ κs a r e. (now r ≡ recordAnswer (now (imageOf a)) (slotNumberOf a))
       × (ptr r ≡ offsetBy (extentAnswer (now (imageOf a)) (slotNumberOf a) .start) (ptr (imageOf a))))

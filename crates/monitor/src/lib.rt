@@ -4,6 +4,7 @@ ghost use mathlib.Core.Path.{_≡_};
 ghost use denote.Ref.{ptr};
 ghost use Rattle.wire.specs.Output.{written};
 ghost use Rattle.wire.specs.Slices.{offsetBy};
+ghost use Rattle.image.specs.Image.{imageNumber};
 ghost use Rattle.snapshot.specs.Writing.{snapshotBytes};
 ghost use Rattle.monitor.specs.Calls.{recordAnswer, extentAnswer, outputAnswer, refusal};
 ghost use Rattle.monitor.specs.Calls.{rewriteAnswer, rewriteOutput, turnsAnswer, turnsOutput, viewAnswer, viewOutput};
@@ -13,6 +14,13 @@ pub struct Answer {
     pub number: u8,
     pub length: usize,
     pub busy: u64,
+}
+
+// The number of an image, 0 where it is accepted. Nothing is written.
+pub fn check(image: &[u8]) -> u8
+    ensures { λ r. ⌜ r ≡ imageNumber (now (image .entry)) ⌝ }
+{
+    image::number(image)
 }
 
 // The record of a slot, as the part of the image that holds it: no bytes for an unused slot, a slot above 15 or a refused

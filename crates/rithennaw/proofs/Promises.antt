@@ -5,12 +5,16 @@ use mathlib.Core.Path.{_≡_, refl, sym}
 use mathlib.Core.List.{List}
 use denote.Ref.{now}
 use Rattle.wire.specs.Lists.{Bytes}
+use Rattle.image.specs.Image.{imageNumber}
 use Rattle.monitor.specs.declared.Answer.{Answer}
 use Rattle.monitor.specs.Calls.{Call, callAnswer, extentAnswer, rewriteAnswer, rewriteOutput, turnsAnswer, turnsOutput, TurnsPromise}
 use Rattle.monitor.specs.Calls.{viewCall, viewAnswer, viewOutput, ViewPromise}
 use Rattle.monitor.proofs.Calls.{busy-0}
 use Rattle.monitor.proofs.Keeps.{Keeps, imageOf, slotNumberOf, countOf, observerOf, outputOf, soleOutputOf}
 use Rattle.sheet.specs.Sheet.{sheetCall, sheetAnswer, sheetOutput, SheetPromise}
+use Rattle.rithennaw.proofs.rithennaw_check as Check
+use Rattle.rithennaw.proofs.rithennaw_check.Symbol as CheckCode
+use Rattle.rithennaw.proofs.rithennaw_check.Met as CheckMet
 use Rattle.rithennaw.proofs.rithennaw_record as Record
 use Rattle.rithennaw.proofs.rithennaw_record.Symbol as RecordCode
 use Rattle.rithennaw.proofs.rithennaw_record.Met as RecordMet
@@ -66,6 +70,9 @@ abbrev pub RewriteTold : List ℕ → List ℕ → ℕ → ℕ → List ℕ → 
 RewriteTold image out = Told (rewriteAnswer image out) (rewriteOutput image out) image
 
 module _ {M : Type 1} where
+  pub rithennaw-check-keeps : Keeps M Check.ended CheckCode.routine (λ κs a r e. (r ≡ imageNumber (now (imageOf a))) × Bytes (now (imageOf a)))
+  rithennaw-check-keeps = CheckMet.met
+
   pub rithennaw-record-keeps : Keeps M Record.ended RecordCode.routine
       (λ κs a r e. (now (startOf e) ≡ extentAnswer (now (imageOf a)) (slotNumberOf a) .start)
       × (now (lengthOf e) ≡ extentAnswer (now (imageOf a)) (slotNumberOf a) .length))

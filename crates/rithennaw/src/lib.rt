@@ -3,8 +3,17 @@
 // a number promises as well that what it was lent as the image is bytes: with number 0 that makes an accepted image.
 ghost use mathlib.Core.Path.{_≡_};
 ghost use Rattle.wire.specs.Lists.{Bytes};
+ghost use Rattle.image.specs.Image.{imageNumber};
 ghost use Rattle.monitor.specs.Calls.{extentAnswer, rewriteAnswer, rewriteOutput, turnsAnswer, turnsOutput, viewAnswer, viewOutput};
 ghost use Rattle.sheet.specs.Sheet.{sheetAnswer, sheetOutput};
+
+// The number of an image, 0 where it is accepted.
+#[no_mangle]
+pub extern "C" fn rithennaw_check(image: &[u8]) -> u8
+    ensures { λ r. ⌜ (r ≡ imageNumber (now (image .entry))) × Bytes (now (image .entry)) ⌝ }
+{
+    monitor::check(image)
+}
 
 // Where the record of a slot stands in the image: start and length both 0 where it has none.
 #[no_mangle]
