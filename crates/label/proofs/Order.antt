@@ -11,15 +11,15 @@ use Rattle.wire.proofs.Lists.{each-intro, each-at}
 use Rattle.label.specs.Label.{bit, flows, join}
 
 -- what the machine's laws ask of an order on labels: a preorder, with a join above its first argument and within the labels
-pub record Order (flows : ℕ → ℕ → Bool) (join : ℕ → ℕ → ℕ) : Type 0 where
-  pub reflexive : (k : ℕ) → flows k k ≡ true
-  pub transitive : (k l m : ℕ) → flows k l ≡ true → flows l m ≡ true → flows k m ≡ true
-  pub join-above : (k m : ℕ) → flows k (join k m) ≡ true
-  pub join-label : (k m : ℕ) → k ≤ 15 → m ≤ 15 → join k m ≤ 15
+pub record Order (mayFlow : ℕ → ℕ → Bool) (joined : ℕ → ℕ → ℕ) : Type 0 where
+  pub reflexive : (k : ℕ) → mayFlow k k ≡ true
+  pub transitive : (k l m : ℕ) → mayFlow k l ≡ true → mayFlow l m ≡ true → mayFlow k m ≡ true
+  pub join-above : (k m : ℕ) → mayFlow k (joined k m) ≡ true
+  pub join-label : (k m : ℕ) → k ≤ 15 → m ≤ 15 → joined k m ≤ 15
 
 -- an observer that sees a label sees every label that flows to it
 abbrev pub DownClosed : (ℕ → ℕ → Bool) → (ℕ → Bool) → Type 0
-DownClosed flows sees = (k l : ℕ) → flows k l ≡ true → sees l ≡ true → sees k ≡ true
+DownClosed mayFlow sees = (k l : ℕ) → mayFlow k l ≡ true → sees l ≡ true → sees k ≡ true
 
 module _ (k m : ℕ) where
   flows-intro : ((o : ℕ) → o < 8 → bit o k ≤ bit o m) → flows k m ≡ true

@@ -25,33 +25,33 @@ use Rattle.machine.specs.View.{viewTask}
 abbrev pub viewOutcome : (ℕ → Bool) → Outcome → Outcome
 viewOutcome sees o = record { task = viewTask sees (o .task); action = o .action }
 
-module _ (flows : ℕ → ℕ → Bool) where
+module _ (mayFlow : ℕ → ℕ → Bool) where
   -- a task t in slot s may become t′ and do this: send to labels that its own flows to, and split its spare for a child
   abbrev pub Allowed : ℕ → Task → Task → Action → Type 0
   Allowed s t t′ noAction = t .spare ≡ t′ .spare
-  Allowed s t t′ (deliver j m) = (t .spare ≡ t′ .spare) × (flows (t .label) (m .label) ≡ true)
-  Allowed s t t′ (spawn j c) = (suc (s + t′ .spare) ≡ j) × (suc (t′ .spare + c .spare) ≡ t .spare) × (flows (t .label) (c .label) ≡ true)
+  Allowed s t t′ (deliver j m) = (t .spare ≡ t′ .spare) × (mayFlow (t .label) (m .label) ≡ true)
+  Allowed s t t′ (spawn j c) = (suc (s + t′ .spare) ≡ j) × (suc (t′ .spare + c .spare) ≡ t .spare) × (mayFlow (t .label) (c .label) ≡ true)
 
   pub record Contained (s : ℕ) (t : Task) (o : Outcome) : Type 0 where
-    pub rises : flows (t .label) (o .task .label) ≡ true
+    pub rises : mayFlow (t .label) (o .task .label) ≡ true
     pub allowed : Allowed s t (o .task) (o .action)
 
-  module _ (join : ℕ → ℕ → ℕ) (order : Order flows join) where
+  module _ (joined : ℕ → ℕ → ℕ) (order : Order mayFlow joined) where
     -- ---- a task that the observer sees
-    module _ (sees : ℕ → Bool) (down : DownClosed flows sees) (t : Task) (seen : sees (t .label) ≡ true) where
+    module _ (sees : ℕ → Bool) (down : DownClosed mayFlow sees) (t : Task) (seen : sees (t .label) ≡ true) where
       -- what the task may receive the observer sees
-      receivable-seen : (m : Message) → receivable flows t m ≡ true → sees (m .label) ≡ true
+      receivable-seen : (m : Message) → receivable mayFlow t m ≡ true → sees (m .label) ≡ true
       receivable-seen m h = down (m .label) (t .label) h seen
 
-      oldest-view : oldest flows (viewTask sees t) ≡ oldest flows t
-      oldest-view = rw (keep-keep (receivable flows t) (λ m. sees (m .label)) receivable-seen)
+      oldest-view : oldest mayFlow (viewTask sees t) ≡ oldest mayFlow t
+      oldest-view = rw (keep-keep (receivable mayFlow t) (λ m. sees (m .label)) receivable-seen)
 
       taken-view : (a b : ℕ) (otherwise : Task) (o : Option Message)
-          → taken flows a b (viewTask sees otherwise) (viewTask sees t) o ≡ viewOutcome sees (taken flows a b otherwise t o)
+          → taken mayFlow a b (viewTask sees otherwise) (viewTask sees t) o ≡ viewOutcome sees (taken mayFlow a b otherwise t o)
       taken-view a b otherwise none = refl
-      taken-view a b otherwise (some m) = rw (dropFirst-keep (receivable flows t) (λ m. sees (m .label)) receivable-seen)
+      taken-view a b otherwise (some m) = rw (dropFirst-keep (receivable mayFlow t) (λ m. sees (m .label)) receivable-seen)
 
-      execute-view : (i : Instruction) (s : ℕ) → execute flows join i s (viewTask sees t) ≡ viewOutcome sees (execute flows join i s t)
+      execute-view : (i : Instruction) (s : ℕ) → execute mayFlow joined i s (viewTask sees t) ≡ viewOutcome sees (execute mayFlow joined i s t)
       unfolding execute
       execute-view End s = refl
       execute-view (Set a b c) s = refl
@@ -61,17 +61,17 @@ module _ (flows : ℕ → ℕ → Bool) where
       execute-view (Go a) s = refl
       execute-view (Zero a b) s = split (eqb (register t a) 0) (λ e. rw e) (λ e. rw e)
       execute-view (Raise a) s = refl
-      execute-view (Send a b c) s = split (flows (t .label) b) (λ e. rw e) (λ e. rw e)
-      execute-view (Take a b) s = rw oldest-view (taken-view a b t (oldest flows t))
-      execute-view (Poll a b c) s = rw oldest-view (taken-view a b (withPc c t) (oldest flows t))
+      execute-view (Send a b c) s = split (mayFlow (t .label) b) (λ e. rw e) (λ e. rw e)
+      execute-view (Take a b) s = rw oldest-view (taken-view a b t (oldest mayFlow t))
+      execute-view (Poll a b c) s = rw oldest-view (taken-view a b (withPc c t) (oldest mayFlow t))
       execute-view (Sandbox a b c) s = split (leb c (t .spare)) (λ e. rw e) (λ e. rw e)
       execute-view (Identity a b) s = refl
 
-      carriedOut-view : (d : Decoded) (s : ℕ) → carriedOut flows join d s (viewTask sees t) ≡ viewOutcome sees (carriedOut flows join d s t)
+      carriedOut-view : (d : Decoded) (s : ℕ) → carriedOut mayFlow joined d s (viewTask sees t) ≡ viewOutcome sees (carriedOut mayFlow joined d s t)
       carriedOut-view (Legal i) s = execute-view i s
       carriedOut-view Illegal s = refl
 
-      pub outcome-view : (program : List ℕ) (s : ℕ) → outcome flows join program s (viewTask sees t) ≡ viewOutcome sees (outcome flows join program s t)
+      pub outcome-view : (program : List ℕ) (s : ℕ) → outcome mayFlow joined program s (viewTask sees t) ≡ viewOutcome sees (outcome mayFlow joined program s t)
       unfolding outcome
       outcome-view program s =
           split (eqb (t .pc) (count program)) (λ e. rw e) (λ e. rw e (carriedOut-view (instructionAt program (t .pc)) s))
@@ -82,11 +82,11 @@ module _ (flows : ℕ → ℕ → Bool) where
       withoutAction-contained : (t′ : Task) → t .label ≡ t′ .label → t .spare ≡ t′ .spare → Contained s t (withoutAction t′)
       withoutAction-contained t′ l k = record { rises = rw l (order .reflexive (t′ .label)); allowed = omega arith }
 
-      taken-contained : (a b : ℕ) (otherwise : Task) → Contained s t (withoutAction otherwise) → (o : Option Message) → Contained s t (taken flows a b otherwise t o)
+      taken-contained : (a b : ℕ) (otherwise : Task) → Contained s t (withoutAction otherwise) → (o : Option Message) → Contained s t (taken mayFlow a b otherwise t o)
       taken-contained a b otherwise h none = h
       taken-contained a b otherwise h (some m) = withoutAction-contained _ refl refl
 
-      execute-contained : (n : ℕ) (i : Instruction) → Sound n i → Contained s t (execute flows join i s t)
+      execute-contained : (n : ℕ) (i : Instruction) → Sound n i → Contained s t (execute mayFlow joined i s t)
       unfolding execute
       execute-contained n End h = withoutAction-contained _ refl refl
       execute-contained n (Set a b c) h = withoutAction-contained _ refl refl
@@ -98,11 +98,11 @@ module _ (flows : ℕ → ℕ → Bool) where
           split (eqb (register t a) 0) (λ e. rw e (withoutAction-contained _ refl refl)) (λ e. rw e (withoutAction-contained _ refl refl))
       execute-contained n (Raise a) h = record { rises = order .join-above (t .label) a; allowed = omega arith }
       execute-contained n (Send a b c) h =
-          split (flows (t .label) b)
+          split (mayFlow (t .label) b)
           (λ e. rw e record { rises = order .reflexive (t .label); allowed = (omega arith, e) })
           (λ e. rw e (withoutAction-contained _ refl refl))
-      execute-contained n (Take a b) h = taken-contained a b t (withoutAction-contained _ refl refl) (oldest flows t)
-      execute-contained n (Poll a b c) h = taken-contained a b (withPc c t) (withoutAction-contained _ refl refl) (oldest flows t)
+      execute-contained n (Take a b) h = taken-contained a b t (withoutAction-contained _ refl refl) (oldest mayFlow t)
+      execute-contained n (Poll a b c) h = taken-contained a b (withPc c t) (withoutAction-contained _ refl refl) (oldest mayFlow t)
       execute-contained n (Sandbox a b c) h =
           split (leb c (t .spare))
           (λ e. let fits : c ≤ t .spare = leb-true c (t .spare) e in
@@ -110,11 +110,11 @@ module _ (flows : ℕ → ℕ → Bool) where
           (λ e. rw e (withoutAction-contained _ refl refl))
       execute-contained n (Identity a b) h = withoutAction-contained _ refl refl
 
-      carriedOut-contained : (program : List ℕ) (d : Decoded) → instructionAt program (t .pc) ≡ d → Contained s t (carriedOut flows join d s t)
+      carriedOut-contained : (program : List ℕ) (d : Decoded) → instructionAt program (t .pc) ≡ d → Contained s t (carriedOut mayFlow joined d s t)
       carriedOut-contained program (Legal i) e = execute-contained (count program) i (at-sound program (t .pc) i e)
       carriedOut-contained program Illegal e = withoutAction-contained _ refl refl
 
-      pub outcome-contained : (program : List ℕ) → Contained s t (outcome flows join program s t)
+      pub outcome-contained : (program : List ℕ) → Contained s t (outcome mayFlow joined program s t)
       unfolding outcome
       outcome-contained program =
           split (eqb (t .pc) (count program))

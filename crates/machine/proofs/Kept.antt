@@ -9,7 +9,7 @@ use Rattle.wire.proofs.Lists.{split, getD-set-at}
 use Rattle.label.proofs.Order.{Order}
 use Rattle.machine.specs.State.{Message, Task, Slot, unused, used, State, slotAt, isLive, isUnused}
 use Rattle.machine.specs.Effect.{Action, noAction, deliver, spawn, Outcome, outcome}
-use Rattle.machine.specs.Turn.{hasRoom, enqueue, perform, applied, step, turn, turns}
+use Rattle.machine.specs.Turn.{hasRoom, enqueue, perform, applied, step, turnBy, turnsBy}
 use Rattle.machine.specs.Valid.{Valid}
 use Rattle.machine.proofs.Effect.{Allowed, Contained, outcome-contained}
 use Rattle.machine.proofs.Spare.{Spares, spawn-unused}
@@ -17,10 +17,10 @@ use Rattle.machine.proofs.Valid.{valid-spares, turns-valid}
 
 -- ---- the program
 
-pub turns-program : (flows : ℕ → ℕ → Bool) (join : ℕ → ℕ → ℕ) (n : ℕ) (state : State) → turns flows join n state .program ≡ state .program
-unfolding turns turn
-turns-program flows join zero state = refl
-turns-program flows join (suc n) state = turns-program flows join n state
+pub turns-program : (mayFlow : ℕ → ℕ → Bool) (joined : ℕ → ℕ → ℕ) (n : ℕ) (state : State) → turnsBy mayFlow joined n state .program ≡ state .program
+unfolding turnsBy turnBy
+turns-program mayFlow joined zero state = refl
+turns-program mayFlow joined (suc n) state = turns-program mayFlow joined n state
 
 -- ---- slots
 
@@ -37,22 +37,22 @@ perform-unused noAction ss k z = z
 perform-unused (deliver j m) ss k z = set-unused ss j (enqueue m (slotAt ss j)) (enqueue-unused m (slotAt ss j)) k z
 perform-unused (spawn j c) ss k z = set-unused ss j (used c) (λ e. cc) k z
 
-module _ (flows : ℕ → ℕ → Bool) (join : ℕ → ℕ → ℕ) where
+module _ (mayFlow : ℕ → ℕ → Bool) (joined : ℕ → ℕ → ℕ) where
   step-unused : (program : List ℕ) (s : ℕ) (ss : List Slot) (x : Slot) (k : ℕ)
-      → isUnused (slotAt (step flows join program s ss x) k) ≡ true → isUnused (slotAt ss k) ≡ true
+      → isUnused (slotAt (step mayFlow joined program s ss x) k) ≡ true → isUnused (slotAt ss k) ≡ true
   step-unused program s ss unused k z = z
   step-unused program s ss (used t) k z =
-      let o = outcome flows join program s t in
+      let o = outcome mayFlow joined program s t in
       split (isLive t)
       (λ e. set-unused ss s (used (o .task)) (λ f. cc) k (perform-unused (o .action) (set ss s (used (o .task))) k (rw e at z)))
       (λ e. rw e at z)
 
   -- a slot that is unused after turns was unused before
-  pub turns-unused : (n : ℕ) (state : State) (k : ℕ) → isUnused (slotAt (turns flows join n state .slots) k) ≡ true → isUnused (slotAt (state .slots) k) ≡ true
-  unfolding turns turn
+  pub turns-unused : (n : ℕ) (state : State) (k : ℕ) → isUnused (slotAt (turnsBy mayFlow joined n state .slots) k) ≡ true → isUnused (slotAt (state .slots) k) ≡ true
+  unfolding turnsBy turnBy
   turns-unused zero state k z = z
   turns-unused (suc n) state k z =
-      let before = turns flows join n state in
+      let before = turnsBy mayFlow joined n state in
       turns-unused n state k (step-unused (before .program) (before .turnSlot) (before .slots) (slotAt (before .slots) (before .turnSlot)) k z)
 
 -- ---- stopped tasks
@@ -61,7 +61,7 @@ module _ (flows : ℕ → ℕ → Bool) (join : ℕ → ℕ → ℕ) where
 set-kept : (ss : List Slot) (j : ℕ) (y : Slot) (i : ℕ) (x : Slot) → slotAt ss i ≡ x → (i ≡ j → y ≡ x) → slotAt (set ss j y) i ≡ x
 set-kept ss j y i x at h = getD-set-at (λ (z : Slot). z ≡ x) ss j i y unused h at
 
-module _ (flows : ℕ → ℕ → Bool) (join : ℕ → ℕ → ℕ) where
+module _ (mayFlow : ℕ → ℕ → Bool) (joined : ℕ → ℕ → ℕ) where
   -- a task t in slot s of the slots ss, and a stopped one in slot i
   module _ (ss : List Slot) (ok : Spares ss) (s : ℕ) (t : Task) (at : slotAt ss s ≡ used t)
       (i : ℕ) (x : Task) (there : slotAt ss i ≡ used x) (stopped : isLive x ≡ false) where
@@ -69,7 +69,7 @@ module _ (flows : ℕ → ℕ → Bool) (join : ℕ → ℕ → ℕ) where
     enqueue-stopped m = rw stopped
 
     -- what t does leaves it: it takes no message, and a child's slot was unused
-    perform-stopped : (t′ : Task) (a : Action) → Allowed flows s t t′ a → slotAt (set ss s (used t′)) i ≡ used x
+    perform-stopped : (t′ : Task) (a : Action) → Allowed mayFlow s t t′ a → slotAt (set ss s (used t′)) i ≡ used x
         → slotAt (perform a (set ss s (used t′))) i ≡ used x
     perform-stopped t′ noAction h e = e
     perform-stopped t′ (deliver j m) h e =
@@ -77,28 +77,28 @@ module _ (flows : ℕ → ℕ → Bool) (join : ℕ → ℕ → ℕ) where
         set-kept rs j (enqueue m (slotAt rs j)) i (used x) e (λ q. rw (← q, e) (enqueue-stopped m))
     perform-stopped t′ (spawn j c) h e =
         set-kept (set ss s (used t′)) j (used c) i (used x) e
-        (λ q. let z : _≡_ {A = ℕ} 0 1 = cc (spawn-unused ss ok s t at flows t′ j c h) in absurd (omega arith))
+        (λ q. let z : _≡_ {A = ℕ} 0 1 = cc (spawn-unused ss ok s t at mayFlow t′ j c h) in absurd (omega arith))
 
-    applied-stopped : isLive t ≡ true → (o : Outcome) → Contained flows s t o → slotAt (applied s o ss) i ≡ used x
+    applied-stopped : isLive t ≡ true → (o : Outcome) → Contained mayFlow s t o → slotAt (applied s o ss) i ≡ used x
     applied-stopped live o h =
         perform-stopped (o .task) (o .action) (h .allowed)
         (set-kept ss s (used (o .task)) i (used x) there (λ q. let z : t ≡ x = cc in cc (ap isLive z)))
 
-module _ (flows : ℕ → ℕ → Bool) (join : ℕ → ℕ → ℕ) (order : Order flows join) where
+module _ (mayFlow : ℕ → ℕ → Bool) (joined : ℕ → ℕ → ℕ) (order : Order mayFlow joined) where
   step-stopped : (program : List ℕ) (s : ℕ) (ss : List Slot) → Spares ss → (y : Slot) → slotAt ss s ≡ y
-      → (i : ℕ) (x : Task) → slotAt ss i ≡ used x → isLive x ≡ false → slotAt (step flows join program s ss y) i ≡ used x
+      → (i : ℕ) (x : Task) → slotAt ss i ≡ used x → isLive x ≡ false → slotAt (step mayFlow joined program s ss y) i ≡ used x
   step-stopped program s ss ok unused at i x there stopped = there
   step-stopped program s ss ok (used t) at i x there stopped =
       split (isLive t)
-      (λ e. rw e (applied-stopped flows join ss ok s t at i x there stopped e (outcome flows join program s t) (outcome-contained flows join order s t program)))
+      (λ e. rw e (applied-stopped mayFlow joined ss ok s t at i x there stopped e (outcome mayFlow joined program s t) (outcome-contained mayFlow joined order s t program)))
       (λ e. rw e there)
 
   -- a task that has stopped is the same after any turns
   pub turns-stopped : (n : ℕ) (state : State) → Valid state → (i : ℕ) (x : Task) → slotAt (state .slots) i ≡ used x → isLive x ≡ false
-      → slotAt (turns flows join n state .slots) i ≡ used x
-  unfolding turns turn
+      → slotAt (turnsBy mayFlow joined n state .slots) i ≡ used x
+  unfolding turnsBy turnBy
   turns-stopped zero state ok i x there stopped = there
   turns-stopped (suc n) state ok i x there stopped =
-      let before = turns flows join n state in
-      step-stopped (before .program) (before .turnSlot) (before .slots) (valid-spares before (turns-valid flows join order n state ok))
+      let before = turnsBy mayFlow joined n state in
+      step-stopped (before .program) (before .turnSlot) (before .slots) (valid-spares before (turns-valid mayFlow joined order n state ok))
       (slotAt (before .slots) (before .turnSlot)) refl i x (turns-stopped n state ok i x there stopped) stopped

@@ -6,7 +6,7 @@ use Rattle.wire.proofs.Lists.{every-weaken}
 use Rattle.label.specs.Label.{flows, join}
 use Rattle.label.proofs.Order.{DownClosed, label-order, flows-15}
 use Rattle.machine.specs.State.{Message, Slot, unused, used, State, slotAt, hasLiveTask}
-use Rattle.machine.specs.Turn.{current, turn}
+use Rattle.machine.specs.Turn.{current, turnBy}
 use Rattle.machine.specs.Valid.{Valid}
 use Rattle.machine.proofs.Rules.{MessageFacts, SlotFacts, slot-facts}
 use Rattle.machine.specs.Machine.{turns, busy, view}
@@ -37,7 +37,7 @@ turns-program = Kept.turns-program flows join
 pub turns-none : (s : State) → s ≡ turns 0 s
 turns-none = Turn.turns-none flows join
 
-pub turns-more : (n : ℕ) (s : State) → turns (n + 1) s ≡ turn flows join (turns n s)
+pub turns-more : (n : ℕ) (s : State) → turns (n + 1) s ≡ turnBy flows join (turns n s)
 turns-more = Turn.turns-more flows join
 
 pub turns-add : (m n : ℕ) (s : State) → turns (m + n) s ≡ turns n (turns m s)

@@ -10,7 +10,8 @@ use lib.Dec.{leb, eqb}
 use lib.ListN.{length, List·getD-eq-default}
 use Rattle.wire.specs.Lists.{each, all, Every}
 use Rattle.wire.proofs.Lists.{and-both, and-intro, each-intro, each-at, every-at, every-of, every-weaken, every-all}
-use Rattle.machine.specs.State.{lastSender, Message, Task, Slot, unused, used, slotAt, isUnused, spareOf, register}
+use Rattle.machine.specs.Limits.{highestSender}
+use Rattle.machine.specs.State.{Message, Task, Slot, unused, used, slotAt, isUnused, spareOf, register}
 use Rattle.machine.specs.Turn.{ofLabel}
 use Rattle.machine.specs.Valid.{isProgramLength, messageInRange, mailInRange, sparesUnused, ValidTask, ValidSlot}
 
@@ -27,7 +28,7 @@ size-facts l e =
 
 pub record MessageFacts (m : Message) : Type 0 where
   pub label : m .label ≤ 15
-  pub sender : m .sender ≤ lastSender
+  pub sender : m .sender ≤ highestSender
   pub value : m .value < 2 ^ 32
 
 pub record MailboxFacts (ms : List Message) : Type 0 where
@@ -39,7 +40,7 @@ unfolding all
 messages-facts [] e v = tt
 messages-facts (m ∷ ms) e v =
     let e₂ = and-both (messageInRange m) (all messageInRange ms) e in
-    let e₃ = and-both (leb (m .label) 15) (leb (m .sender) lastSender) (e₂ .0) in
+    let e₃ = and-both (leb (m .label) 15) (leb (m .sender) highestSender) (e₂ .0) in
     (record { label = leb-true _ _ (e₃ .0); sender = leb-true _ _ (e₃ .1); value = v .0 }, messages-facts ms (e₂ .1) (v .1))
 
 mailbox-facts : (ms : List Message) → mailInRange ms ≡ true → Every (λ m. m .value < 2 ^ 32) ms → MailboxFacts ms
@@ -53,7 +54,7 @@ mailbox-facts ms e v =
 mailbox-test : (ms : List Message) → MailboxFacts ms → mailInRange ms ≡ true
 mailbox-test ms f =
     and-intro (all messageInRange ms) (each 16 (λ l. leb (length (ofLabel l ms)) 4))
-    (every-all MessageFacts messageInRange (λ m h. and-intro (leb (m .label) 15) (leb (m .sender) lastSender) (le-leb _ _ (h .label)) (le-leb _ _ (h .sender))) ms (f .each))
+    (every-all MessageFacts messageInRange (λ m h. and-intro (leb (m .label) 15) (leb (m .sender) highestSender) (le-leb _ _ (h .label)) (le-leb _ _ (h .sender))) ms (f .each))
     (each-intro 16 (λ l. leb (length (ofLabel l ms)) 4) (λ l h. le-leb (length (ofLabel l ms)) 4 (f .four l (omega arith))))
 
 -- ---- tasks

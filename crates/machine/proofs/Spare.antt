@@ -149,18 +149,18 @@ module _ (ss : List Slot) (ok : Spares ss) (i : ℕ) (t : Task) (at : slotAt ss 
       go (yes h) = omega arith
       go (no h) = let z : _≡_ {A = ℕ} 0 1 = cc (List·getD-eq-default ss unused {n = i} (omega (arith, ok .slotCount))) in omega arith
 
-  module _ (flows : ℕ → ℕ → Bool) where
+  module _ (mayFlow : ℕ → ℕ → Bool) where
     spares-own : (t′ : Task) → t .spare ≡ t′ .spare → Spares (set ss i (used t′))
     spares-own t′ h = spares-set ss i (used t′) ok (rw at (no-more-used t t′ (omega arith)))
 
-    spares-perform : (t′ : Task) (a : Action) → Allowed flows i t t′ a → Spares (perform a (set ss i (used t′)))
+    spares-perform : (t′ : Task) (a : Action) → Allowed mayFlow i t t′ a → Spares (perform a (set ss i (used t′)))
     spares-perform t′ noAction h = spares-own t′ h
     spares-perform t′ (deliver j m) h = spares-deliver (set ss i (used t′)) j m (spares-own t′ (h .0))
     spares-perform t′ (spawn j c) h = spares-spawn ss ok i j t t′ c at used-low (h .0) (h .1)
 
     -- a child's slot was unused
-    pub spawn-unused : (t′ : Task) (j : ℕ) (c : Task) → Allowed flows i t t′ (spawn j c) → slotAt ss j ≡ unused
+    pub spawn-unused : (t′ : Task) (j : ℕ) (c : Task) → Allowed mayFlow i t t′ (spawn j c) → slotAt ss j ≡ unused
     spawn-unused t′ j c h = ok .free i j (omega arith) (rw at (omega arith))
 
-    pub spares-applied : (o : Outcome) → Contained flows i t o → Spares (applied i o ss)
+    pub spares-applied : (o : Outcome) → Contained mayFlow i t o → Spares (applied i o ss)
     spares-applied o h = spares-perform (o .task) (o .action) (h .allowed)

@@ -50,6 +50,6 @@ pub record Traps : Type 0 where
   pub replaced : ShownAlike 2 (state (0x07 ∷ 2 ∷ 0 ∷ 0 ∷ []) 0 (task 1 0) 1 (task 0 0))
 
 pub traps : Traps
-unfolding Lists.each Label.flows Table.decode Program.instructionAt Effect.execute Effect.outcome Turn.turn
-    Turn.turns View.view
+unfolding Lists.each Label.flows Table.decode Program.instructionAt Effect.execute Effect.outcome Turn.turnBy
+    Turn.turnsBy View.viewBy
 traps = record { limit = refl; told = refl; child = refl; skipped = refl; oldest = refl; unchecked = refl; replaced = refl }

@@ -23,8 +23,8 @@ use Rattle.instruction.proofs.Table.{Sound}
 use Rattle.instruction.proofs.Program.{at-below, at-sound, at-bytes, legal-at}
 use Rattle.machine.specs.State.{Message, Task, Slot, unused, used, State, slotAt, spareOf, withKind, withLabel, withSpare, withPc, withMailbox, register, withRegister, next}
 use Rattle.machine.specs.Effect.{Action, noAction, deliver, spawn, Outcome, withoutAction, childOf, childSlot, receivable, oldest, taken, execute, carriedOut, outcome}
-use Rattle.machine.specs.Turn.{hasRoom, enqueue, perform, applied, successor, step, turn, turns}
-use Rattle.machine.specs.View.{viewSlot, view}
+use Rattle.machine.specs.Turn.{hasRoom, enqueue, perform, applied, successor, step, turnBy, turnsBy}
+use Rattle.machine.specs.View.{viewSlot, viewBy}
 use Rattle.machine.specs.Valid.{Valid}
 use Rattle.machine.proofs.Rules.{MessageFacts, MailboxFacts, TaskFacts, SlotFacts, slot-facts, slot-valid, spares-free, spares-test}
 use Rattle.machine.proofs.Mailbox.{mailbox-keep, mailbox-dropFirst, mailbox-append, mailbox-nil}
@@ -94,7 +94,7 @@ child-words : (s a : ℕ) → s ≤ 15 → getD (s ∷ replicate 7 0) a 0 < 2 ^ 
 child-words s zero h = omega arith
 child-words s (suc a) h = zeros-low 7 a
 
-module _ (flows : ℕ → ℕ → Bool) (join : ℕ → ℕ → ℕ) (order : Order flows join) (n s : ℕ) (t : Task) (ok : TaskFacts n s t) where
+module _ (mayFlow : ℕ → ℕ → Bool) (joined : ℕ → ℕ → ℕ) (order : Order mayFlow joined) (n s : ℕ) (t : Task) (ok : TaskFacts n s t) where
   withoutAction-ok : (t′ : Task) → TaskFacts n s t′ → OutcomeFacts n s (withoutAction t′)
   withoutAction-ok t′ h = record { task = h; action = tt }
 
@@ -110,24 +110,24 @@ module _ (flows : ℕ → ℕ → Bool) (join : ℕ → ℕ → ℕ) (order : Or
     mailbox = mailbox-nil;
   }
 
-  oldest-ok : (m : Message) → oldest flows t ≡ some m → MessageFacts m
+  oldest-ok : (m : Message) → oldest mayFlow t ≡ some m → MessageFacts m
   oldest-ok m e =
-      every-head MessageFacts (keep (receivable flows t) (t .mailbox)) m (every-keep MessageFacts (receivable flows t) (t .mailbox) (ok .mailbox .each)) e
+      every-head MessageFacts (keep (receivable mayFlow t) (t .mailbox)) m (every-keep MessageFacts (receivable mayFlow t) (t .mailbox) (ok .mailbox .each)) e
 
   module _ (before : t .pc < n) where
     -- register a gets x, and the place goes up
     gets-ok : (a x : ℕ) → x < 2 ^ 32 → OutcomeFacts n s (withoutAction (next (withRegister a x t)))
     gets-ok a x h = withoutAction-ok _ (next-ok n s _ (register-ok n s t ok a x h) before)
 
-    taken-ok : (a b : ℕ) (otherwise : Task) → TaskFacts n s otherwise → (o : Option Message) → oldest flows t ≡ o → OutcomeFacts n s (taken flows a b otherwise t o)
+    taken-ok : (a b : ℕ) (otherwise : Task) → TaskFacts n s otherwise → (o : Option Message) → oldest mayFlow t ≡ o → OutcomeFacts n s (taken mayFlow a b otherwise t o)
     taken-ok a b otherwise h none e = withoutAction-ok otherwise h
     taken-ok a b otherwise h (some m) e =
         let g = oldest-ok m e in
-        let ms = dropFirst (receivable flows t) (t .mailbox) in
-        let left = mailbox-ok n s t ok ms (mailbox-dropFirst (t .mailbox) (ok .mailbox) (receivable flows t)) in
+        let ms = dropFirst (receivable mayFlow t) (t .mailbox) in
+        let left = mailbox-ok n s t ok ms (mailbox-dropFirst (t .mailbox) (ok .mailbox) (receivable mayFlow t)) in
         withoutAction-ok _ (next-ok n s _ (register-ok n s _ (register-ok n s _ left a (m .value) (g .value)) b (m .sender) (omega (arith, g .sender))) before)
 
-    execute-ok : (i : Instruction) → Sound n i → Bytes (encode i) → OutcomeFacts n s (execute flows join i s t)
+    execute-ok : (i : Instruction) → Sound n i → Bytes (encode i) → OutcomeFacts n s (execute mayFlow joined i s t)
     unfolding execute
     execute-ok End h g = withoutAction-ok _ (kind-ok n s t ok 2 (omega arith) (omega arith))
     execute-ok (Set a b c) h g = gets-ok a (b * 256 + c) (omega (arith, g .1 .1 .0, g .1 .1 .1 .0))
@@ -137,13 +137,13 @@ module _ (flows : ℕ → ℕ → Bool) (join : ℕ → ℕ → ℕ) (order : Or
     execute-ok (Go a) h g = withoutAction-ok _ (pc-ok n s t ok a (omega arith))
     execute-ok (Zero a b) h g =
         split (eqb (register t a) 0) (λ e. rw e (withoutAction-ok _ (pc-ok n s t ok b (omega arith)))) (λ e. rw e (withoutAction-ok _ (next-ok n s t ok before)))
-    execute-ok (Raise a) h g = withoutAction-ok _ (next-ok n s _ (label-ok n s t ok (join (t .label) a) (order .join-label (t .label) a (ok .label) (h .0))) before)
+    execute-ok (Raise a) h g = withoutAction-ok _ (next-ok n s _ (label-ok n s t ok (joined (t .label) a) (order .join-label (t .label) a (ok .label) (h .0))) before)
     execute-ok (Send a b c) h g =
-        split (flows (t .label) b)
+        split (mayFlow (t .label) b)
         (λ e. rw e record { task = next-ok n s t ok before; action = record { label = h .1; sender = omega (arith, ok .spare); value = ok .words c } })
         (λ e. rw e (withoutAction-ok _ (kind-ok n s t ok 4 (omega arith) (omega arith))))
-    execute-ok (Take a b) h g = taken-ok a b t ok (oldest flows t) refl
-    execute-ok (Poll a b c) h g = taken-ok a b (withPc c t) (pc-ok n s t ok c (omega arith)) (oldest flows t) refl
+    execute-ok (Take a b) h g = taken-ok a b t ok (oldest mayFlow t) refl
+    execute-ok (Poll a b c) h g = taken-ok a b (withPc c t) (pc-ok n s t ok c (omega arith)) (oldest mayFlow t) refl
     execute-ok (Sandbox a b c) h g =
         split (leb c (t .spare))
         (λ e. let fits : c ≤ t .spare = leb-true c (t .spare) e in
@@ -157,12 +157,12 @@ module _ (flows : ℕ → ℕ → Bool) (join : ℕ → ℕ → ℕ) (order : Or
         withoutAction-ok _ (next-ok n s _ (register-ok n s _ (register-ok n s t ok a (t .label) (omega (arith, ok .label))) b s (omega (arith, ok .spare))) before)
 
   module _ (program : List ℕ) (bytes : Bytes program) (size : count program ≡ n) where
-    carriedOut-ok : (d : Decoded) → instructionAt program (t .pc) ≡ d → OutcomeFacts n s (carriedOut flows join d s t)
+    carriedOut-ok : (d : Decoded) → instructionAt program (t .pc) ≡ d → OutcomeFacts n s (carriedOut mayFlow joined d s t)
     carriedOut-ok (Legal i) e =
         execute-ok (omega (arith, at-below program (t .pc) i e)) i (rw size at (at-sound program (t .pc) i e)) (at-bytes program (t .pc) i bytes e)
     carriedOut-ok Illegal e = withoutAction-ok t ok
 
-    outcome-ok : OutcomeFacts n s (outcome flows join program s t)
+    outcome-ok : OutcomeFacts n s (outcome mayFlow joined program s t)
     unfolding outcome
     outcome-ok =
         split (eqb (t .pc) (count program))
@@ -234,41 +234,41 @@ module _ (s : State) (ok : Valid s) where
     spares = spares-test ss (sp .free);
   }
 
-pub view-valid : (sees : ℕ → Bool) (s : State) → Valid s → Valid (view sees s)
-unfolding view
+pub view-valid : (sees : ℕ → Bool) (s : State) → Valid s → Valid (viewBy sees s)
+unfolding viewBy
 view-valid sees s ok =
     with-slots s ok (s .turnSlot) (map (viewSlot sees) (s .slots)) (leb-true (s .turnSlot) 15 (ok .turnSlot))
     (λ i. rw (List·getD-map (viewSlot sees) (s .slots) i unused) (viewSlot-ok (count (s .program)) sees i (slotAt (s .slots) i) (tasks-facts s ok i)))
     (spares-view sees (s .slots) (valid-spares s ok))
 
-module _ (flows : ℕ → ℕ → Bool) (join : ℕ → ℕ → ℕ) (order : Order flows join) where
+module _ (mayFlow : ℕ → ℕ → Bool) (joined : ℕ → ℕ → ℕ) (order : Order mayFlow joined) where
   -- one turn of the slot x where the turn slot is
   module _ (s : State) (ok : Valid s) where
-    step-ok : (x : Slot) → slotAt (s .slots) (s .turnSlot) ≡ x → SlotsFacts (count (s .program)) (step flows join (s .program) (s .turnSlot) (s .slots) x)
+    step-ok : (x : Slot) → slotAt (s .slots) (s .turnSlot) ≡ x → SlotsFacts (count (s .program)) (step mayFlow joined (s .program) (s .turnSlot) (s .slots) x)
     step-ok unused at = tasks-facts s ok
     step-ok (used t) at =
         let n = count (s .program) in
         let i = s .turnSlot in
         let facts : TaskFacts n i t = rw at at (tasks-facts s ok i) in
         split (eqb (t .kind) 1)
-        (λ e. rw e (applied-ok n i (outcome flows join (s .program) i t) (outcome-ok flows join order n i t facts (s .program) (ok .bytes) refl) (s .slots) (tasks-facts s ok)))
+        (λ e. rw e (applied-ok n i (outcome mayFlow joined (s .program) i t) (outcome-ok mayFlow joined order n i t facts (s .program) (ok .bytes) refl) (s .slots) (tasks-facts s ok)))
         (λ e. rw e (tasks-facts s ok))
 
-    step-spares : (x : Slot) → slotAt (s .slots) (s .turnSlot) ≡ x → Spares (step flows join (s .program) (s .turnSlot) (s .slots) x)
+    step-spares : (x : Slot) → slotAt (s .slots) (s .turnSlot) ≡ x → Spares (step mayFlow joined (s .program) (s .turnSlot) (s .slots) x)
     step-spares unused at = valid-spares s ok
     step-spares (used t) at =
         let i = s .turnSlot in
         split (eqb (t .kind) 1)
-        (λ e. rw e (spares-applied (s .slots) (valid-spares s ok) i t at flows (outcome flows join (s .program) i t) (outcome-contained flows join order i t (s .program))))
+        (λ e. rw e (spares-applied (s .slots) (valid-spares s ok) i t at mayFlow (outcome mayFlow joined (s .program) i t) (outcome-contained mayFlow joined order i t (s .program))))
         (λ e. rw e (valid-spares s ok))
 
-  turn-valid : (s : State) → Valid s → Valid (turn flows join s)
-  unfolding turn
+  turn-valid : (s : State) → Valid s → Valid (turnBy mayFlow joined s)
+  unfolding turnBy
   turn-valid s ok =
       let x = slotAt (s .slots) (s .turnSlot) in
-      with-slots s ok (successor (s .turnSlot)) (step flows join (s .program) (s .turnSlot) (s .slots) x) (omega arith) (step-ok s ok x refl) (step-spares s ok x refl)
+      with-slots s ok (successor (s .turnSlot)) (step mayFlow joined (s .program) (s .turnSlot) (s .slots) x) (omega arith) (step-ok s ok x refl) (step-spares s ok x refl)
 
-  pub turns-valid : (n : ℕ) (s : State) → Valid s → Valid (turns flows join n s)
-  unfolding turns
+  pub turns-valid : (n : ℕ) (s : State) → Valid s → Valid (turnsBy mayFlow joined n s)
+  unfolding turnsBy
   turns-valid zero s ok = ok
-  turns-valid (suc n) s ok = turn-valid (turns flows join n s) (turns-valid n s ok)
+  turns-valid (suc n) s ok = turn-valid (turnsBy mayFlow joined n s) (turns-valid n s ok)

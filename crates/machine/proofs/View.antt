@@ -11,7 +11,7 @@ use Rattle.wire.proofs.Lists.{split, map-set, map-absorb, keep-append, keep-kee
 use Rattle.machine.specs.State.{Message, Task, Slot, unused, used, State, slotAt}
 use Rattle.machine.specs.Effect.{Action, noAction, deliver, spawn, Outcome}
 use Rattle.machine.specs.Turn.{hasRoom, enqueue, perform, applied}
-use Rattle.machine.specs.View.{viewTask, viewSlot, view}
+use Rattle.machine.specs.View.{viewTask, viewSlot, viewBy}
 use Rattle.machine.proofs.Effect.{viewOutcome}
 
 module _ (sees : ℕ → Bool) where
@@ -26,8 +26,8 @@ module _ (sees : ℕ → Bool) where
   slots-twice = map-absorb (viewSlot sees) (viewSlot sees) slot-twice
 
   -- a view of its own view is that view
-  pub view-twice : (s : State) → view sees (view sees s) ≡ view sees s
-  unfolding view
+  pub view-twice : (s : State) → viewBy sees (viewBy sees s) ≡ viewBy sees s
+  unfolding viewBy
   view-twice s = rw (slots-twice (s .slots))
 
   pub slot-hidden : (t : Task) → sees (t .label) ≡ false → viewSlot sees (used t) ≡ unused
@@ -88,8 +88,8 @@ slot-both p q unused = refl
 slot-both p q (used t) = split (q (t .label)) (λ e. rw (e, keep-and)) (λ e. rw e)
 
 -- a view of a view is the view for the labels that both see
-pub view-view : (p q : ℕ → Bool) (s : State) → view p (view q s) ≡ view (λ l. q l && p l) s
-unfolding view
+pub view-view : (p q : ℕ → Bool) (s : State) → viewBy p (viewBy q s) ≡ viewBy (λ l. q l && p l) s
+unfolding viewBy
 view-view p q s = simp (map-map, slot-both)
 
 -- ---- one who sees everything
@@ -106,6 +106,6 @@ slots-all : (sees : ℕ → Bool) (ss : List Slot) → ((i : ℕ) → AllSeen se
 slots-all sees [] h = refl
 slots-all sees (x ∷ ss) h = rw (slot-all sees x (h 0), slots-all sees ss (λ i. h (suc i)))
 
-pub view-all : (sees : ℕ → Bool) (s : State) → ((i : ℕ) → AllSeen sees (slotAt (s .slots) i)) → view sees s ≡ s
-unfolding view
+pub view-all : (sees : ℕ → Bool) (s : State) → ((i : ℕ) → AllSeen sees (slotAt (s .slots) i)) → viewBy sees s ≡ s
+unfolding viewBy
 view-all sees s h = rw (slots-all sees (s .slots) h)

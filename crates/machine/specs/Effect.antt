@@ -41,10 +41,12 @@ childOf s l b n = record { kind = 1; label = l; spare = n - 1; pc = b; registers
 abbrev pub childSlot : ℕ → Task → ℕ → ℕ
 childSlot s t n = s + (t .spare - n) + 1
 
-module _ (flows : ℕ → ℕ → Bool) where
+-- ---- over any order of labels: `mayFlow` says where a label flows, and `joined` is the join of two
+
+module _ (mayFlow : ℕ → ℕ → Bool) where
   -- a message is receivable when its label flows to the task's label
   abbrev pub receivable : Task → Message → Bool
-  receivable t m = flows (m .label) (t .label)
+  receivable t m = mayFlow (m .label) (t .label)
 
   abbrev pub oldest : Task → Option Message
   oldest t = head? (keep (receivable t) (t .mailbox))
@@ -56,7 +58,7 @@ module _ (flows : ℕ → ℕ → Bool) where
   taken a b otherwise t (some m) =
       withoutAction (next (withRegister b (m .sender) (withRegister a (m .value) (withMailbox (dropFirst (receivable t) (t .mailbox)) t))))
 
-  module _ (join : ℕ → ℕ → ℕ) where
+  module _ (joined : ℕ → ℕ → ℕ) where
     -- instruction i, carried out by the task t in slot s
     unfoldable pub execute : Instruction → ℕ → Task → Outcome
     execute End s t = stopped 2 t
@@ -66,9 +68,9 @@ module _ (flows : ℕ → ℕ → Bool) where
     execute (Subtract a b c) s t = gets a ((register t b + 2 ^ 32 - register t c) % 2 ^ 32) t
     execute (Go a) s t = withoutAction (withPc a t)
     execute (Zero a b) s t = withoutAction (cond (eqb (register t a) 0) (withPc b t) (next t))
-    execute (Raise a) s t = withoutAction (next (withLabel (join (t .label) a) t))
+    execute (Raise a) s t = withoutAction (next (withLabel (joined (t .label) a) t))
     execute (Send a b c) s t =
-        cond (flows (t .label) b)
+        cond (mayFlow (t .label) b)
         (record { task = next t; action = deliver (register t a) (record { label = b; sender = s; value = register t c }) })
         (stopped 4 t)
     execute (Take a b) s t = taken a b t t (oldest t)

@@ -5,10 +5,6 @@ use mathlib.Core.List.{List}
 use lib.Dec.{eqb}
 use lib.ListN.{getD, set}
 
--- the highest sender: slot 15
-abbrev pub lastSender : ℕ
-lastSender = 15
-
 pub record Message : Type 0 where
   pub label : ℕ
   pub sender : ℕ

@@ -5,12 +5,9 @@ use mathlib.Core.List.{List, [], _∷_, _++_}
 use lib.Dec.{eqb, ltb}
 use lib.ListN.{length, set}
 use Rattle.wire.specs.Lists.{keep}
+use Rattle.machine.specs.Limits.{limitPerLabel}
 use Rattle.machine.specs.State.{Message, Slot, unused, used, State, slotAt, isLive, hasLiveTask, withMailbox}
 use Rattle.machine.specs.Effect.{Action, noAction, deliver, spawn, Outcome, outcome}
-
--- a mailbox holds at most four messages of each label
-abbrev pub limitPerLabel : ℕ
-limitPerLabel = 4
 
 -- the messages of label l
 abbrev pub ofLabel : ℕ → List Message → List Message
@@ -44,14 +41,16 @@ successor s = (s + 1) % 16
 abbrev pub current : State → Slot
 current state = slotAt (state .slots) (state .turnSlot)
 
-module _ (flows : ℕ → ℕ → Bool) (join : ℕ → ℕ → ℕ) where
+-- ---- over any order of labels: `mayFlow` says where a label flows, and `joined` is the join of two
+
+module _ (mayFlow : ℕ → ℕ → Bool) (joined : ℕ → ℕ → ℕ) where
   -- the slots after the turn of slot s; the last argument is what slot s holds
   abbrev pub step : List ℕ → ℕ → List Slot → Slot → List Slot
   step program s ss unused = ss
-  step program s ss (used t) = cond (isLive t) (applied s (outcome flows join program s t) ss) ss
+  step program s ss (used t) = cond (isLive t) (applied s (outcome mayFlow joined program s t) ss) ss
 
-  unfoldable pub turn : State → State
-  turn state =
+  unfoldable pub turnBy : State → State
+  turnBy state =
       record {
         program = state .program;
         turnSlot = successor (state .turnSlot);
@@ -59,11 +58,11 @@ module _ (flows : ℕ → ℕ → Bool) (join : ℕ → ℕ → ℕ) where
       }
 
   -- the state after n turns
-  unfoldable pub turns : ℕ → State → State
-  turns zero state = state
-  turns (suc n) state = turn (turns n state)
+  unfoldable pub turnsBy : ℕ → State → State
+  turnsBy zero state = state
+  turnsBy (suc n) state = turnBy (turnsBy n state)
 
   -- how many of n turns meet a live task
-  unfoldable pub busy : ℕ → State → ℕ
-  busy zero state = 0
-  busy (suc n) state = busy n state + cond (hasLiveTask (current (turns n state))) 1 0
+  unfoldable pub busyBy : ℕ → State → ℕ
+  busyBy zero state = 0
+  busyBy (suc n) state = busyBy n state + cond (hasLiveTask (current (turnsBy n state))) 1 0

@@ -8,24 +8,25 @@ use lib.Dec.{leb, eqb}
 use lib.ListN.{length}
 use Rattle.wire.specs.Lists.{each, all, Bytes, Every}
 use Rattle.instruction.specs.Program.{count, allLegal}
-use Rattle.machine.specs.State.{lastSender, Message, Task, Slot, unused, used, State, slotAt, isUnused, spareOf}
-use Rattle.machine.specs.Turn.{limitPerLabel, ofLabel}
+use Rattle.machine.specs.Limits.{highestLabel, highestSlot, highestSender, highestKind, limitPerLabel, longestProgram}
+use Rattle.machine.specs.State.{Message, Task, Slot, unused, used, State, slotAt, isUnused, spareOf}
+use Rattle.machine.specs.Turn.{ofLabel}
 
 -- 5 program length, in bytes: a multiple of 4 from 4 to 1,024
 unfoldable pub isProgramLength : ℕ → Bool
-isProgramLength l = eqb (l % 4) 0 && leb 4 l && leb l 1024
+isProgramLength l = eqb (l % 4) 0 && leb 4 l && leb l longestProgram
 
 -- 7 turn slot: 0 to 15
 abbrev pub isTurnSlot : ℕ → Bool
-isTurnSlot s = leb s 15
+isTurnSlot s = leb s highestSlot
 
 -- 9 task field, in slot s of an image with n instructions: kind, label and place in range, and s + spare at most 15
 abbrev pub fieldsInRange : ℕ → ℕ → Task → Bool
-fieldsInRange s n t = leb 1 (t .kind) && leb (t .kind) 5 && leb (t .label) 15 && leb (t .pc) n && leb (s + t .spare) 15
+fieldsInRange s n t = leb 1 (t .kind) && leb (t .kind) highestKind && leb (t .label) highestLabel && leb (t .pc) n && leb (s + t .spare) highestSlot
 
 -- 10 mail: message labels and senders in range, and at most four messages of each label
 abbrev pub messageInRange : Message → Bool
-messageInRange m = leb (m .label) 15 && leb (m .sender) lastSender
+messageInRange m = leb (m .label) highestLabel && leb (m .sender) highestSender
 
 abbrev pub mailInRange : List Message → Bool
 mailInRange ms = all messageInRange ms && each 16 (λ l. leb (length (ofLabel l ms)) limitPerLabel)

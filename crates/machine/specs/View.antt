@@ -15,5 +15,5 @@ module _ (sees : ℕ → Bool) where
   viewSlot unused = unused
   viewSlot (used t) = cond (sees (t .label)) (used (viewTask t)) unused
 
-  unfoldable pub view : State → State
-  view state = record { program = state .program; turnSlot = state .turnSlot; slots = map viewSlot (state .slots) }
+  unfoldable pub viewBy : State → State
+  viewBy state = record { program = state .program; turnSlot = state .turnSlot; slots = map viewSlot (state .slots) }

@@ -14,8 +14,8 @@ use Rattle.monitor.specs.Calls as Calls
 use Rattle.monitor.specs.Examples.{Examples}
 
 pub examples : Examples
-unfolding Lists.each Label.flows Table.decode Program.instructionAt Effect.execute Effect.outcome Turn.turn
-    Turn.turns Turn.busy View.view Program.allLegal Lists.all Items.decodeItems Items.encodeItems Image.programLength Image.slotsPart Image.versionNumber
+unfolding Lists.each Label.flows Table.decode Program.instructionAt Effect.execute Effect.outcome Turn.turnBy
+    Turn.turnsBy Turn.busyBy View.viewBy Program.allLegal Lists.all Items.decodeItems Items.encodeItems Image.programLength Image.slotsPart Image.versionNumber
     Valid.isProgramLength Image.programNumber Image.turnSlotNumber Image.recordLength Image.skip Image.slotsOf
     Image.isRecordLength Image.slotNumber Image.slotsNumber Image.tailNumber Valid.sparesUnused
     Image.spareNumber Image.imageNumber Image.stateOf Image.imageBytes Calls.callNumber Calls.callAnswer

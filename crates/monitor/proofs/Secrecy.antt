@@ -81,7 +81,7 @@ turnsOf c = cond (isAccepted c) (c .n) 0
 module _ (c : TurnCall) (image : List ℕ) (a : Accepted image) (p : TurnsPromise (c .n) image (c .out) (c .told) (c .after)) where
   -- an accepted call leaves the image after its turns, and a refused one the image itself
   after-call : imageAfter c image ≡ imageBytes (turns (turnsOf c) (stateOf image))
-  unfolding Turn.turns
+  unfolding Turn.turnsBy
   after-call =
       split (isAccepted c)
       (λ e. let number : turnsAnswer (c .n) image (c .out) .number ≡ 0 = rw (p .0) at (eqb-true (c .told .number) 0 e) in
@@ -99,7 +99,7 @@ module _ (c : TurnCall) (image : List ℕ) (a : Accepted image) (p : TurnsPromis
 
 after-calls : (cs : List TurnCall) (image : List ℕ) → Accepted image → KeptPromises cs image
     → finalImage cs image ≡ imageBytes (turns (turnsCarriedOut cs) (stateOf image))
-unfolding Turn.turns
+unfolding Turn.turnsBy
 after-calls [] image a p = sym (rewritten image a)
 after-calls (c ∷ cs) image a p =
     after-calls cs (imageAfter c image) (after-accepted c image a (p .0)) (p .1)

@@ -16,8 +16,8 @@ use Rattle.sheet.specs.Claims.{Prints}
 use Rattle.sheet.proofs.Printed.{printed-long}
 
 pub prints : Prints
-unfolding Lists.each Lists.tabulate Label.flows Table.decode Program.instructionAt Effect.execute Effect.outcome Turn.turn
-    Turn.turns View.view Program.allLegal Lists.all Items.decodeItems Items.encodeItems Image.programLength Image.slotsPart Image.versionNumber
+unfolding Lists.each Lists.tabulate Label.flows Table.decode Program.instructionAt Effect.execute Effect.outcome Turn.turnBy
+    Turn.turnsBy View.viewBy Program.allLegal Lists.all Items.decodeItems Items.encodeItems Image.programLength Image.slotsPart Image.versionNumber
     Valid.isProgramLength Image.programNumber Image.turnSlotNumber Image.recordLength Image.skip Image.slotsOf
     Image.isRecordLength Image.slotNumber Image.slotsNumber Image.tailNumber Valid.sparesUnused
     Image.spareNumber Image.imageNumber Image.stateOf Image.imageBytes

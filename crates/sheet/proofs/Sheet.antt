@@ -10,7 +10,7 @@ use Rattle.wire.proofs.Items.{items-most}
 use Rattle.label.specs.Label.{flows}
 use Rattle.instruction.specs.Program.{count}
 use Rattle.machine.specs.State.{Slot, unused, used, State, slotAt}
-use Rattle.machine.specs.View.{viewSlot, view as View·view}
+use Rattle.machine.specs.View.{viewSlot, viewBy}
 use Rattle.machine.specs.Machine.{view}
 use Rattle.machine.specs.Valid.{ValidSlot, Valid}
 use Rattle.machine.proofs.Rules.{size-facts, task-facts}
@@ -27,7 +27,7 @@ use Rattle.sheet.proofs.Text.{decimal-width, length-spaced, length-line
 -- ---- the table's sheet
 
 pub sheet-shown : (v : ℕ) (words : List ℕ) (s : State) → slotsIn words ≡ s .slots → shownSheet v words ≡ sheetText (view v s)
-unfolding shownSheet shownLines shownLine sheetText slotLines View·view
+unfolding shownSheet shownLines shownLine sheetText slotLines viewBy
 sheet-shown v words s loaded =
     rw loaded
     (ap (λ (g : ℕ → List ℕ). heading ++ encodeItems g (tabulate 16 (λ s. s)))

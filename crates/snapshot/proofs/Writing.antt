@@ -15,7 +15,7 @@ use Rattle.wire.specs.Numbers.{encodeNumber}
 use Rattle.wire.specs.Items.{encodeItems}
 use Rattle.wire.proofs.Items.{items-map, items-keep, length-items}
 use Rattle.machine.specs.State.{Message, Task, Slot, unused, used, slotAt}
-use Rattle.machine.specs.View.{viewTask, viewSlot, view}
+use Rattle.machine.specs.View.{viewTask, viewSlot, viewBy}
 use Rattle.image.specs.Record.{messageBytes}
 use Rattle.image.specs.Image.{programOf, slotBytes, imageBytes}
 use Rattle.image.proofs.Records.{length-registers}
@@ -115,7 +115,7 @@ unfolding headBytes
 head-length program turn = omega (arith, length-append program (turn ∷ []))
 
 pub snapshot-parts : (words image : List ℕ) (turn v : ℕ) → snapshotBytes words image turn v ≡ headBytes (programOf image) turn ++ encodeItems (shownSlot v) (slotsIn words)
-unfolding snapshotBytes headBytes shownSlot view imageBytes
+unfolding snapshotBytes headBytes shownSlot viewBy imageBytes
 snapshot-parts words image turn v =
     let front = 1 ∷ encodeNumber 2 (length (programOf image)) ++ programOf image in
     ap (λ (r : List ℕ). front ++ turn ∷ r) (items-map slotBytes (viewSlot (λ l. flows l v)) (slotsIn words))

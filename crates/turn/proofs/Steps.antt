@@ -108,7 +108,7 @@ module _ (ss : List Slot) (s : ℕ) {k : ℕ} (kind : k ≡ taskAt ss s .kind) w
 module _ (program : List ℕ) (s : ℕ) (ss : List Slot) where
   pub turn-live : hasLiveTask (slotAt ss s) ≡ true
       → applied s (outcome flows join program s (taskAt ss s)) ss ≡ turns 1 (record { program = program; turnSlot = s; slots = ss }) .slots
-  unfolding Turn.turns Turn.turn
+  unfolding Turn.turnsBy Turn.turnBy
   turn-live = live (slotAt ss s)
     where
       live : (x : Slot) → hasLiveTask x ≡ true → applied s (outcome flows join program s (taskOr x)) ss ≡ Turn.step flows join program s ss x
@@ -116,7 +116,7 @@ module _ (program : List ℕ) (s : ℕ) (ss : List Slot) where
       live (used t) e = rw e
 
   pub turn-idle : hasLiveTask (slotAt ss s) ≡ false → ss ≡ turns 1 (record { program = program; turnSlot = s; slots = ss }) .slots
-  unfolding Turn.turns Turn.turn
+  unfolding Turn.turnsBy Turn.turnBy
   turn-idle = idle (slotAt ss s)
     where
       idle : (x : Slot) → hasLiveTask x ≡ false → ss ≡ Turn.step flows join program s ss x
@@ -129,9 +129,9 @@ module _ (program : List ℕ) (s : ℕ) (ss : List Slot) where
 module _ (start : State) (n : ℕ) (program : List ℕ) (s : ℕ) (ss : List Slot) (now : record { program = program; turnSlot = s; slots = ss } ≡ turns n start) where
   pub turns-next : (ss′ : List Slot) → ss′ ≡ turns 1 (record { program = program; turnSlot = s; slots = ss }) .slots
       → record { program = program; turnSlot = (s + 1) % 16; slots = ss′ } ≡ turns (n + 1) start
-  unfolding Turn.turns Turn.turn
+  unfolding Turn.turnsBy Turn.turnBy
   turns-next ss′ e =
-      ap (λ (rs : List Slot). record { program = program; turnSlot = (s + 1) % 16; slots = rs }) e ∙ ap (Turn.turn flows join) now ∙ sym (turns-more n start)
+      ap (λ (rs : List Slot). record { program = program; turnSlot = (s + 1) % 16; slots = rs }) e ∙ ap (Turn.turnBy flows join) now ∙ sym (turns-more n start)
 
   pub busy-next : busy (n + 1) start ≡ busy n start + cond (hasLiveTask (slotAt ss s)) 1 0
   busy-next = busy-more n start ∙ ap (λ (state : State). busy n start + cond (hasLiveTask (current state)) 1 0) (sym now)
