@@ -6,8 +6,7 @@ use lib.Dec.{leb, eqb}
 use lib.ListN.{length, getD, take, drop}
 use Rattle.wire.specs.Numbers.{decodeNumber, encodeNumber}
 use Rattle.wire.specs.Items.{encodeItems}
-use Rattle.instruction.specs.declared.Decoded.the-variants.{Illegal}
-use Rattle.instruction.specs.Program.{count, decodedNumber, allLegal}
+use Rattle.instruction.specs.Program.{count, allLegal}
 use Rattle.machine.specs.State.{Slot, State}
 use Rattle.machine.specs.Valid.{isProgramLength, isTurnSlot, sparesUnused}
 use Rattle.image.specs.declared.Extent.{Extent}
@@ -49,7 +48,7 @@ programNumber b =
     short programAt b
     then unless (isProgramLength (programLength b)) 5
     then short (turnSlotAt b) b
-    then unless (allLegal (programOf b)) (decodedNumber Illegal)
+    then unless (allLegal (programOf b)) 6
 
 -- 7 turn slot
 unfoldable pub turnSlotNumber : List ℕ → ℕ

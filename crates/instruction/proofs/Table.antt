@@ -13,7 +13,8 @@ use Rattle.instruction.specs.declared.Instruction.{Instruction}
 use Rattle.instruction.specs.declared.Instruction.the-variants.{End, Set, Copy, Add, Subtract, Go, Zero, Raise, Send, Take, Poll, Sandbox, Identity}
 use Rattle.instruction.specs.declared.Decoded.{Decoded}
 use Rattle.instruction.specs.declared.Decoded.the-variants.{Legal}
-use Rattle.instruction.specs.Table.{Operand, R, T, L, S, any, blank, admits, Row, table, legalIf, decodeBy, decode, encode}
+use Rattle.instruction.specs.Table.{Operand, R, T, L, S, any, blank, admits, Row, table, legalIf, decodeBy, decode}
+use Rattle.instruction.specs.Encode.{encode}
 
 -- ---- bytes to an instruction and back
 

@@ -1,8 +1,8 @@
 -- A program: N instructions of four bytes.
 use Prim.Native.Nat.{ℕ, _+_, _*_, _/_}
-use mathlib.Core.Bool.{Bool, cond}
+use mathlib.Core.Bool.{Bool, true, false, cond}
 use mathlib.Core.List.{List}
-use lib.Dec.{eqb, ltb}
+use lib.Dec.{ltb}
 use lib.ListN.{length, getD}
 use Rattle.wire.specs.Lists.{each}
 use Rattle.instruction.specs.declared.Decoded.{Decoded}
@@ -20,13 +20,9 @@ instructionAt program pc =
     (decode (count program) (getD program (4 * pc) 0) (getD program (4 * pc + 1) 0) (getD program (4 * pc + 2) 0) (getD program (4 * pc + 3) 0))
     Illegal
 
--- 01's number for what was decoded: 6 instruction, where it is not in the table or an operand is outside it
-abbrev pub decodedNumber : Decoded → ℕ
-decodedNumber (Legal i) = 0
-decodedNumber Illegal = 6
-
 abbrev pub isLegal : Decoded → Bool
-isLegal d = eqb (decodedNumber d) 0
+isLegal (Legal i) = true
+isLegal Illegal = false
 
 -- every instruction is in the table, with operands within it
 unfoldable pub allLegal : List ℕ → Bool

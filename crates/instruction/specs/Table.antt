@@ -1,4 +1,4 @@
--- The table of instructions as data, and an instruction to and from its four bytes.
+-- The table of instructions as data, and what four bytes decode to.
 use Prim.Native.Nat.{ℕ}
 use mathlib.Core.Bool.{Bool, true, false, cond, _&&_}
 use mathlib.Core.List.{List, [], _∷_}
@@ -64,19 +64,3 @@ decodeBy (r ∷ rs) n code a b c =
 -- the instruction in the four bytes code a b c, in a program of n instructions
 unfoldable pub decode : ℕ → ℕ → ℕ → ℕ → ℕ → Decoded
 decode n code a b c = decodeBy table n code a b c
-
--- the four bytes of an instruction
-abbrev pub encode : Instruction → List ℕ
-encode End = 0x00 ∷ 0 ∷ 0 ∷ 0 ∷ []
-encode (Set a b c) = 0x01 ∷ a ∷ b ∷ c ∷ []
-encode (Copy a b) = 0x02 ∷ a ∷ b ∷ 0 ∷ []
-encode (Add a b c) = 0x03 ∷ a ∷ b ∷ c ∷ []
-encode (Subtract a b c) = 0x04 ∷ a ∷ b ∷ c ∷ []
-encode (Go a) = 0x05 ∷ a ∷ 0 ∷ 0 ∷ []
-encode (Zero a b) = 0x06 ∷ a ∷ b ∷ 0 ∷ []
-encode (Raise a) = 0x07 ∷ a ∷ 0 ∷ 0 ∷ []
-encode (Send a b c) = 0x08 ∷ a ∷ b ∷ c ∷ []
-encode (Take a b) = 0x09 ∷ a ∷ b ∷ 0 ∷ []
-encode (Poll a b c) = 0x0A ∷ a ∷ b ∷ c ∷ []
-encode (Sandbox a b c) = 0x0B ∷ a ∷ b ∷ c ∷ []
-encode (Identity a b) = 0x0C ∷ a ∷ b ∷ 0 ∷ []

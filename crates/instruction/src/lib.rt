@@ -1,7 +1,8 @@
 // Instructions: each code is decoded into one form that carries its own operands.
 ghost use mathlib.Core.Path.{_≡_};
-ghost use Rattle.instruction.specs.Table.{legalIf, decode, encode};
+ghost use Rattle.instruction.specs.Table.{legalIf, decode};
 ghost use Rattle.instruction.specs.Program.{instructionAt, isLegal, allLegal};
+ghost use Rattle.instruction.specs.Encode.{encode};
 
 // Document 01's table, a case to a row; `Identity` is its word self, which the language reserves.
 pub enum Instruction {

@@ -1,7 +1,7 @@
 -- `instruction::encode` meets its contract: each arm is given that i is the case at the operands that it binds.
 use borrow.Author.Needs.{needs}
 use mathlib.Core.Path.{ap, sym}
-use Rattle.instruction.specs.Table.{encode}
+use Rattle.instruction.specs.Encode.{encode}
 use Rattle.instruction.proofs.encode.Statement.{statement}
 use Rattle.instruction.proofs.encode.Tie as tie
 
