@@ -6,14 +6,15 @@ use Rattle.instruction.specs.Table as Table
 use Rattle.instruction.specs.Program as Program
 use Rattle.machine.specs.Valid as Valid
 use Rattle.image.specs.Image as Image
+use Rattle.image.specs.Refusal as Refusal
 use Rattle.image.specs.Examples.{Examples}
 
 pub examples : Examples
 unfolding Lists.each Lists.all Table.decode Program.instructionAt Program.allLegal Items.decodeItems
     Items.encodeItems Image.programLength Image.slotsPart
-    Image.versionNumber Valid.isProgramLength Image.programNumber Image.turnSlotNumber Image.recordLength
-    Image.skip Image.slotsOf Image.isRecordLength Image.slotNumber Image.slotsNumber Image.tailNumber
-    Valid.sparesUnused Image.spareNumber Image.imageNumber Image.imageBytes
+    Refusal.versionNumber Valid.isProgramLength Refusal.programNumber Refusal.turnSlotNumber Image.recordLength
+    Image.skip Image.slotsOf Refusal.isRecordLength Refusal.slotNumber Refusal.slotsNumber Refusal.tailNumber
+    Valid.sparesUnused Refusal.spareNumber Refusal.imageNumber Image.imageBytes
 examples = record {
   shortest = (refl, refl);
   longest = (refl, refl);

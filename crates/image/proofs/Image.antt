@@ -17,15 +17,16 @@ use Rattle.wire.proofs.Lists.{split, length-nil, take-length-take, every-drop, 
 use Rattle.wire.proofs.Numbers.{encode-decode, decode-encode, encode-bytes}
 use Rattle.instruction.specs.Program.{count, allLegal}
 use Rattle.machine.specs.State.{State, slotAt}
-use Rattle.machine.specs.Valid.{isProgramLength, isTurnSlot, sparesUnused, ValidSlot, Valid}
+use Rattle.machine.specs.Valid.{isProgramLength, sparesUnused, ValidSlot, Valid}
 use Rattle.machine.proofs.Rules.{size-facts}
-use Rattle.image.specs.Refusal.{_then_, unless, short}
+use Rattle.image.specs.Refusal.{_then_, unless, short, versionNumber, programNumber, turnSlotNumber, slotsNumber, tailNumber, spareNumber, imageNumber}
 use Rattle.image.specs.Record.{recordBytes}
-use Rattle.image.specs.Image.{programLength, turnSlotAt, slotsAt, programOf, turnSlotOf, slotsPart, versionNumber, programNumber, turnSlotNumber}
-use Rattle.image.specs.Image.{recordLength, recordOf, span, skip, slotsOf, slotsNumber, tailNumber, spareNumber, imageNumber, stateOf}
-use Rattle.image.specs.Image.{fromSlot, recordStart, recordPart, recordExtent, slotsBytes, imageBytes}
+use Rattle.image.specs.Image.{programLength, turnSlotAt, slotsAt, programOf, turnSlotOf, slotsPart, recordLength, recordOf, span, skip, slotsOf, stateOf}
+use Rattle.image.specs.Image.{imageBytes}
+use Rattle.image.specs.Inner.{fromSlot}
+use Rattle.image.specs.Part.{recordStart, recordPart, recordExtent}
 use Rattle.image.proofs.Refusal.{then-left, then-right, then-assoc, then-holds, Listed, listed-unless, listed-short, unless-none, short-none}
-use Rattle.image.proofs.Slots.{slots-back, slots-valid, slots-length, slots-listed, length-slotsOf, slot-at, skip-drop, record-at, slots-number, slots-forth, slots-end, slots-bytes}
+use Rattle.image.proofs.Slots.{slotsBytes, slots-back, slots-valid, slots-length, slots-listed, length-slotsOf, slot-at, skip-drop, record-at, slots-number, slots-forth, slots-end, slots-bytes}
 
 -- what stands ahead of the slots, then the rest
 pub image-number : (b : List ℕ) → imageNumber b
@@ -46,7 +47,7 @@ record InOrder (b : List ℕ) : Type 0 where
   pub size : isProgramLength (programLength b) ≡ true
   pub legal : allLegal (programOf b) ≡ true
   pub ahead : slotsAt b ≤ length b
-  pub turnSlot : isTurnSlot (turnSlotOf b) ≡ true
+  pub turnSlot : leb (turnSlotOf b) 15 ≡ true
   pub slots : slotsNumber 16 0 (count (programOf b)) (slotsPart b) ≡ 0
   pub tail : skip 16 (slotsPart b) ≡ []
   pub spares : sparesUnused (slotsOf 16 (slotsPart b)) ≡ true
@@ -68,7 +69,7 @@ in-order b e =
       size = unless-none (isProgramLength (programLength b)) 4 (then-left _ _ p₂);
       legal = unless-none (allLegal (programOf b)) 5 p₄;
       ahead = short-none (slotsAt b) b (then-left _ _ t₂);
-      turnSlot = unless-none (isTurnSlot (turnSlotOf b)) 6 (then-right (short (slotsAt b) b) _ t₂);
+      turnSlot = unless-none (leb (turnSlotOf b) 15) 6 (then-right (short (slotsAt b) b) _ t₂);
       slots = then-left _ _ s;
       tail = length-nil _ (eqb-true _ _ (unless-none (eqb (length (skip 16 (slotsPart b))) 0) 10 (then-left (tailNumber b) _ r)));
       spares = unless-none (sparesUnused (slotsOf 16 (slotsPart b))) 11 (then-right (tailNumber b) _ r);
@@ -247,7 +248,7 @@ image-listed b =
     then-holds Listed (versionNumber b) _ (then-holds Listed (short 1 b) _ (listed-short 1 b) (listed-unless (eqb (getD b 0 0) 1) 4 (omega arith) (omega arith)))
     (then-holds Listed (programNumber b) _ (program-listed b)
     (then-holds Listed (turnSlotNumber b) _
-    (then-holds Listed (short (slotsAt b) b) _ (listed-short (slotsAt b) b) (listed-unless (isTurnSlot (turnSlotOf b)) 7 (omega arith) (omega arith)))
+    (then-holds Listed (short (slotsAt b) b) _ (listed-short (slotsAt b) b) (listed-unless (leb (turnSlotOf b) 15) 7 (omega arith) (omega arith)))
     (then-holds Listed (slotsNumber 16 0 n (slotsPart b)) _ (slots-listed 16 0 n (slotsPart b))
     (then-holds Listed (tailNumber b) _ (listed-unless (eqb (length (skip 16 (slotsPart b))) 0) 11 (omega arith) (omega arith))
     (listed-unless (sparesUnused (slotsOf 16 (slotsPart b))) 12 (omega arith) (omega arith))))))

@@ -16,8 +16,8 @@ use Rattle.wire.proofs.Numbers.{length-encode, encode-decode, decode-encode, de
 use Rattle.machine.specs.State.{Message, Task, Slot, unused, used}
 use Rattle.machine.specs.Valid.{fieldsInRange, mailInRange, ValidTask, ValidSlot}
 use Rattle.machine.proofs.Rules.{MessageFacts, task-facts}
-use Rattle.image.specs.Refusal.{unless}
-use Rattle.image.specs.Record.{messageOf, taskOf, slotOf, messageBytes, taskBytes, recordBytes, recordNumber}
+use Rattle.image.specs.Refusal.{unless, recordNumber}
+use Rattle.image.specs.Record.{messageOf, taskOf, slotOf, messageBytes, taskBytes, recordBytes}
 use Rattle.image.proofs.Refusal.{then-left, then-right, unless-none}
 
 -- ---- an unused slot has no record

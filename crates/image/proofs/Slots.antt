@@ -18,11 +18,15 @@ use Rattle.machine.specs.State.{Slot, unused, used, slotAt}
 use Rattle.machine.specs.Valid.{fieldsInRange, mailInRange, ValidSlot}
 use Rattle.machine.proofs.Rules.{task-facts}
 use Rattle.machine.proofs.Mailbox.{mailbox-64}
-use Rattle.image.specs.Refusal.{unless, short}
-use Rattle.image.specs.Record.{slotOf, recordBytes, recordNumber}
-use Rattle.image.specs.Image.{recordLength, recordOf, behind, span, skip, slotsOf, isRecordLength, slotNumber, slotsNumber, slotBytes, slotsBytes}
+use Rattle.image.specs.Refusal.{unless, short, recordNumber, isRecordLength, slotNumber, slotsNumber}
+use Rattle.image.specs.Record.{slotOf, recordBytes}
+use Rattle.image.specs.Image.{recordLength, recordOf, behind, span, skip, slotsOf, slotBytes}
 use Rattle.image.proofs.Refusal.{then-left, then-right, then-none, then-holds, Listed, listed-none, listed-unless, listed-short, unless-none, short-none, long-enough}
 use Rattle.image.proofs.Records.{task-back, task-length, slot-forth, record-bytes, record-valid, valid-record}
+
+-- the bytes of slots one after another
+abbrev pub slotsBytes : List Slot → List ℕ
+slotsBytes = encodeItems slotBytes
 
 -- ---- lengths of records
 

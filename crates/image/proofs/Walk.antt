@@ -3,8 +3,8 @@ use Prim.Native.Nat.{ℕ, zero, suc, _+_, _-_, _<_, _≤_}
 use mathlib.Core.Path.{_≡_, refl}
 use mathlib.Core.List.{List}
 use native.Mathlib.Omega.{arith}
-use Rattle.image.specs.Refusal.{_then_}
-use Rattle.image.specs.Image.{behind, skip, slotNumber, slotsNumber}
+use Rattle.image.specs.Refusal.{_then_, slotNumber, slotsNumber}
+use Rattle.image.specs.Image.{behind, skip}
 
 pub skip-none : (b : List ℕ) → skip 0 b ≡ b
 unfolding skip

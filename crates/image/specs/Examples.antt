@@ -4,8 +4,10 @@ use Prim.Native.Nat.{ℕ, zero, suc}
 use mathlib.Core.Path.{_≡_}
 use mathlib.Core.List.{List, [], _∷_, _++_}
 use lib.ListN.{length, set, take, replicate}
+use Rattle.machine.specs.Limits.{shortestImage, longestImage}
 use Rattle.machine.specs.State.{Message, Task, Slot, unused, used, withKind, withMailbox}
-use Rattle.image.specs.Image.{imageNumber, imageBytes}
+use Rattle.image.specs.Image.{imageBytes}
+use Rattle.image.specs.Refusal.{imageNumber}
 
 -- a live task with its registers 0 and no mail
 abbrev pub task : ℕ → ℕ → ℕ → Task
@@ -28,8 +30,8 @@ image slots = imageBytes (record { program = 0 ∷ 0 ∷ 0 ∷ 0 ∷ []; turnSlo
 abbrev pub numberOf : List Slot → ℕ
 numberOf slots = imageNumber (image slots)
 
-abbrev pub shortestImage : List ℕ
-shortestImage = image (replicate 16 unused)
+abbrev pub emptyImage : List ℕ
+emptyImage = image (replicate 16 unused)
 
 -- n messages of label 2, and four messages of each label below n
 abbrev pub ofTwo : ℕ → Task
@@ -40,22 +42,22 @@ fourOfEach zero = []
 fourOfEach (suc n) = replicate 4 (message n 0 0) ++ fourOfEach n
 
 -- 256 instructions and sixteen tasks of 64 messages
-abbrev pub longestImage : List ℕ
-longestImage =
+abbrev pub fullImage : List ℕ
+fullImage =
     imageBytes (record { program = replicate 1024 0; turnSlot = 0; slots = replicate 16 (used (withMailbox (fourOfEach 16) (task 0 0 0))) })
 
 pub record Examples : Type 0 where
   -- "The shortest image has 40 bytes, the longest 7,796."
-  pub shortest : (imageNumber shortestImage ≡ 0) × (length shortestImage ≡ 40)
-  pub longest : (imageNumber longestImage ≡ 0) × (length longestImage ≡ 7796)
+  pub shortest : (imageNumber emptyImage ≡ 0) × (length emptyImage ≡ shortestImage)
+  pub longest : (imageNumber fullImage ≡ 0) × (length fullImage ≡ longestImage)
   -- 3 to 8 and 11, in the shortest image
-  pub short : imageNumber (take 39 shortestImage) ≡ 3
-  pub version : imageNumber (set shortestImage 0 2) ≡ 4
-  pub programLength : imageNumber (set shortestImage 2 6) ≡ 5
-  pub instruction : imageNumber (set shortestImage 3 0x0D) ≡ 6
-  pub turnSlot : imageNumber (set shortestImage 7 16) ≡ 7
-  pub recordLength : imageNumber (set shortestImage 9 36) ≡ 8
-  pub tail : imageNumber (shortestImage ++ (0 ∷ [])) ≡ 11
+  pub short : imageNumber (take 39 emptyImage) ≡ 3
+  pub version : imageNumber (set emptyImage 0 2) ≡ 4
+  pub programLength : imageNumber (set emptyImage 2 6) ≡ 5
+  pub instruction : imageNumber (set emptyImage 3 0x0D) ≡ 6
+  pub turnSlot : imageNumber (set emptyImage 7 16) ≡ 7
+  pub recordLength : imageNumber (set emptyImage 9 36) ≡ 8
+  pub tail : imageNumber (emptyImage ++ (0 ∷ [])) ≡ 11
   -- "neither 0 nor 37 + 6 × k, k at most 64": 65 messages
   pub tooLong : numberOf (one 3 (ofTwo 65)) ≡ 8
   -- "4 messages of one label accepted, 5 refused with 10."
@@ -65,9 +67,9 @@ pub record Examples : Type 0 where
   -- "Slot 3 with spare 2: slot 5 used gives 12, slot 6 used is accepted."
   pub estate : (numberOf (two 3 (task 0 2 0) 5 (task 0 0 0)) ≡ 12) × (numberOf (two 3 (task 0 2 0) 6 (task 0 0 0)) ≡ 0)
   -- "a part checked whole for 3 before it is judged": the program ahead of its instructions, a record ahead of its fields
-  pub whole : (imageNumber (take 6 (set shortestImage 3 0x0D)) ≡ 3) × (imageNumber (take 46 (image (one 0 (withKind 9 (task 0 0 0))))) ≡ 3)
+  pub whole : (imageNumber (take 6 (set emptyImage 3 0x0D)) ≡ 3) × (imageNumber (take 46 (image (one 0 (withKind 9 (task 0 0 0))))) ≡ 3)
   -- "per slot 8, 3, 9, 10": 8 ahead of 3, 9 ahead of 10, and a slot ahead of the next
-  pub slots : (imageNumber (take 10 (set shortestImage 9 36)) ≡ 8)
+  pub slots : (imageNumber (take 10 (set emptyImage 9 36)) ≡ 8)
       × (numberOf (one 0 (withKind 9 (ofTwo 5))) ≡ 9)
       × (numberOf (two 0 (ofTwo 5) 1 (withKind 9 (task 0 0 0))) ≡ 10)
   -- "Then 11, 12": 11 ahead of 12

@@ -1,12 +1,10 @@
--- A slot's record: its layout, the task in it, the task's bytes, and the numbers 9 and 10.
+-- A slot's record: its layout, the task in it, and the task's bytes.
 use Prim.Native.Nat.{ℕ, _+_, _*_, _/_}
 use mathlib.Core.List.{List, [], _∷_, _++_}
 use lib.ListN.{length, getD, drop}
 use Rattle.wire.specs.Numbers.{decodeNumber, encodeNumber}
 use Rattle.wire.specs.Items.{decodeItems, encodeItems}
 use Rattle.machine.specs.State.{Message, Task, Slot, unused, used}
-use Rattle.machine.specs.Valid.{fieldsInRange, mailInRange}
-use Rattle.image.specs.Refusal.{_then_, unless}
 
 -- ---- the layout: where each field begins, and the size of a message
 
@@ -66,9 +64,3 @@ taskBytes t =
 abbrev pub recordBytes : Slot → List ℕ
 recordBytes unused = []
 recordBytes (used t) = taskBytes t
-
--- ---- what is wrong with a slot: 9 task field, 10 mail
-
-abbrev pub recordNumber : ℕ → ℕ → Slot → ℕ
-recordNumber s n unused = 0
-recordNumber s n (used t) = unless (fieldsInRange s n t) 9 then unless (mailInRange (t .mailbox)) 10

@@ -1,9 +1,17 @@
--- Numbers a caller may receive: 0 is none, and the first one met is given.
-use Prim.Native.Nat.{ℕ, zero, suc}
-use mathlib.Core.Bool.{Bool, true, false}
+-- The numbers a caller may receive, in 01's order: each with its condition, behind what comes before it.
+use Prim.Native.Nat.{ℕ, zero, suc, _+_, _-_, _/_, _%_}
+use mathlib.Core.Bool.{Bool, true, false, _&&_, _||_}
 use mathlib.Core.List.{List}
-use lib.Dec.{leb}
-use lib.ListN.{length}
+use lib.Dec.{leb, eqb}
+use lib.ListN.{length, getD}
+use Rattle.instruction.specs.Program.{count, allLegal}
+use Rattle.machine.specs.Limits.{highestLabel, highestSlot, turnLimit}
+use Rattle.machine.specs.State.{Slot, unused, used}
+use Rattle.machine.specs.Valid.{isProgramLength, fieldsInRange, mailInRange, sparesUnused}
+use Rattle.image.specs.Record.{mailboxAt, messageSize, slotOf}
+use Rattle.image.specs.Image.{programAt, programLength, programOf, turnSlotAt, turnSlotOf, slotsAt, slotsPart, recordLength, recordOf, behind, skip, slotsOf}
+
+-- ---- "The first met is given": 0 is none
 
 infixr 20 _then_
 -- the second number only where the first is 0
@@ -16,6 +24,83 @@ abbrev pub unless : Bool → ℕ → ℕ
 unless true x = 0
 unless false x = x
 
--- 3 where b ends before its n-th byte
+-- ---- "1 or 2 first, each only in the call that has that argument"
+
+-- 1 observer: the label asked for is above 15
+abbrev pub observerNumber : ℕ → ℕ
+observerNumber v = unless (leb v highestLabel) 1
+
+-- 2 turn limit: more than 1,000,000 turns
+abbrev pub turnsNumber : ℕ → ℕ
+turnsNumber n = unless (leb n turnLimit) 2
+
+-- ---- "Then the image from front to back, a part checked whole for 3 before it is judged"
+
+-- 3 short: b ends before its n-th byte
 abbrev pub short : ℕ → List ℕ → ℕ
 short n b = unless (leb n (length b)) 3
+
+-- 4 version: first byte isn't 1
+unfoldable pub versionNumber : List ℕ → ℕ
+versionNumber b = short 1 b then unless (eqb (getD b 0 0) 1) 4
+
+-- 5 program length: no multiple of 4 from 4 to 1,024; 6 instruction: not in the table, or an operand outside it
+unfoldable pub programNumber : List ℕ → ℕ
+programNumber b =
+    short programAt b
+    then unless (isProgramLength (programLength b)) 5
+    then short (turnSlotAt b) b
+    then unless (allLegal (programOf b)) 6
+
+-- 7 turn slot: above 15
+unfoldable pub turnSlotNumber : List ℕ → ℕ
+turnSlotNumber b = short (slotsAt b) b then unless (leb (turnSlotOf b) highestSlot) 7
+
+-- ---- "per slot 8, 3, 9, 10"
+
+-- 9 task field: kind, label, place out of range, or s + spare above 15;
+-- 10 mail: message label or sender above 15, or five or more of one label
+abbrev pub recordNumber : ℕ → ℕ → Slot → ℕ
+recordNumber s n unused = 0
+recordNumber s n (used t) = unless (fieldsInRange s n t) 9 then unless (mailInRange (t .mailbox)) 10
+
+-- 0 or 37 + 6 × k, k at most 64
+unfoldable pub isRecordLength : ℕ → Bool
+isRecordLength l = eqb l 0 || (leb mailboxAt l && eqb ((l - mailboxAt) % messageSize) 0 && leb ((l - mailboxAt) / messageSize) 64)
+
+-- slot s, at the front of b, of an image with n instructions; 8 record length: neither 0 nor 37 + 6 × k, k at most 64
+unfoldable pub slotNumber : ℕ → ℕ → List ℕ → ℕ
+slotNumber s n b =
+    short 2 b
+    then unless (isRecordLength (recordLength b)) 8
+    then short (2 + recordLength b) b
+    then recordNumber s n (slotOf (recordOf b))
+
+-- k slots from slot s on
+unfoldable pub slotsNumber : ℕ → ℕ → ℕ → List ℕ → ℕ
+slotsNumber zero s n b = 0
+slotsNumber (suc k) s n b = slotNumber s n b then slotsNumber k (s + 1) n (behind b)
+
+-- ---- "Then 11, 12, 13"
+
+-- 11 tail: bytes after slot 15
+unfoldable pub tailNumber : List ℕ → ℕ
+tailNumber b = unless (eqb (length (skip 16 (slotsPart b))) 0) 11
+
+-- 12 estate: a used slot lies in another task's spare
+unfoldable pub spareNumber : List ℕ → ℕ
+spareNumber b = unless (sparesUnused (slotsOf 16 (slotsPart b))) 12
+
+-- the number of an image: the first that is met, and 0 where it is accepted
+unfoldable pub imageNumber : List ℕ → ℕ
+imageNumber b =
+    versionNumber b
+    then programNumber b
+    then turnSlotNumber b
+    then slotsNumber 16 0 (count (programOf b)) (slotsPart b)
+    then tailNumber b
+    then spareNumber b
+
+-- 13 output: output shorter than the answer
+abbrev pub outputNumber : List ℕ → List ℕ → ℕ
+outputNumber answer out = unless (leb (length answer) (length out)) 13

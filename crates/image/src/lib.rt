@@ -4,11 +4,12 @@ ghost use mathlib.Core.Path.{_≡_};
 ghost use denote.Ref.{ptr};
 ghost use Rattle.wire.specs.Slices.{offsetBy};
 ghost use Rattle.machine.specs.Valid.{isProgramLength, mailInRange, fieldsInRange, sparesUnused};
-ghost use Rattle.image.specs.Refusal.{_then_, unless};
-ghost use Rattle.image.specs.Record.{taskOf, slotOf, recordNumber};
-ghost use Rattle.image.specs.Image.{programLength, programOf, turnSlotOf, slotsPart, versionNumber, programNumber, turnSlotNumber};
-ghost use Rattle.image.specs.Image.{recordLength, recordOf, behind, skip, slotsOf, isRecordLength, slotNumber, slotsNumber};
-ghost use Rattle.image.specs.Image.{tailNumber, spareNumber, imageNumber, fromSlot, recordPart, recordExtent};
+ghost use Rattle.image.specs.Refusal.{_then_, unless, recordNumber, versionNumber, programNumber, turnSlotNumber};
+ghost use Rattle.image.specs.Record.{taskOf, slotOf};
+ghost use Rattle.image.specs.Image.{programLength, programOf, turnSlotOf, slotsPart, recordLength, recordOf, behind, skip, slotsOf};
+ghost use Rattle.image.specs.Refusal.{isRecordLength, slotNumber, slotsNumber, tailNumber, spareNumber, imageNumber};
+ghost use Rattle.image.specs.Inner.{fromSlot};
+ghost use Rattle.image.specs.Part.{recordPart, recordExtent};
 
 // ---- the layout: where the fields begin, in an image and in a record, and the size of a message
 

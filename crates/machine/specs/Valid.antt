@@ -16,10 +16,6 @@ use Rattle.machine.specs.Turn.{ofLabel}
 unfoldable pub isProgramLength : ℕ → Bool
 isProgramLength l = eqb (l % 4) 0 && leb 4 l && leb l longestProgram
 
--- 7 turn slot: 0 to 15
-abbrev pub isTurnSlot : ℕ → Bool
-isTurnSlot s = leb s highestSlot
-
 -- 9 task field, in slot s of an image with n instructions: kind, label and place in range, and s + spare at most 15
 abbrev pub fieldsInRange : ℕ → ℕ → Task → Bool
 fieldsInRange s n t = leb 1 (t .kind) && leb (t .kind) highestKind && leb (t .label) highestLabel && leb (t .pc) n && leb (s + t .spare) highestSlot
@@ -52,7 +48,7 @@ pub record Valid (state : State) : Type 0 where
   pub size : isProgramLength (length (state .program)) ≡ true
   pub bytes : Bytes (state .program)
   pub legal : allLegal (state .program) ≡ true
-  pub turnSlot : isTurnSlot (state .turnSlot) ≡ true
+  pub turnSlot : leb (state .turnSlot) highestSlot ≡ true
   pub slotCount : length (state .slots) ≡ 16
   pub tasks : (s : ℕ) → ValidSlot (count (state .program)) s (slotAt (state .slots) s)
   pub spares : sparesUnused (state .slots) ≡ true

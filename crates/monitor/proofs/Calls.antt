@@ -9,11 +9,11 @@ use borrow.Author.Tests.{leb-true, leb-false, le-leb, lt-leb, eqb-true, eqb-fals
 use lib.Dec.{leb, eqb}
 use lib.ListN.{length, take}
 use Rattle.wire.specs.Lists.{Bytes}
-use Rattle.wire.specs.Output.{overwrite, written}
+use Rattle.wire.specs.Output.{overwrite}
+use Rattle.wire.specs.Inner.{written}
 use Rattle.wire.proofs.Lists.{split}
 use Rattle.wire.proofs.Output.{take-overwrite, drop-overwrite, length-overwrite, length-written}
-use Rattle.image.specs.Refusal.{_then_, unless}
-use Rattle.image.specs.Image.{imageNumber}
+use Rattle.image.specs.Refusal.{_then_, unless, imageNumber}
 use Rattle.image.proofs.Refusal.{then-stop, then-left, then-right, then-holds, unless-holds, unless-none, unless-given, Listed, listed-not}
 use Rattle.image.proofs.Image.{image-listed}
 use Rattle.monitor.specs.declared.Answer.{Answer}

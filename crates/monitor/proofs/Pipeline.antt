@@ -10,7 +10,8 @@ use Rattle.machine.specs.State.{State}
 use Rattle.machine.specs.Valid.{Valid}
 use Rattle.machine.specs.Machine.{turns, view}
 use Rattle.machine.proofs.Machine.{turns-valid, turns-program, view-15}
-use Rattle.image.specs.Image.{programOf, turnSlotOf, imageNumber, stateOf, imageBytes}
+use Rattle.image.specs.Image.{programOf, turnSlotOf, stateOf, imageBytes}
+use Rattle.image.specs.Refusal.{imageNumber}
 use Rattle.image.proofs.Image.{accepted-valid}
 use Rattle.table.specs.Table.{slotsIn, stateIn}
 use Rattle.snapshot.specs.Writing.{snapshotBytes}

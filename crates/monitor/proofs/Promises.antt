@@ -4,7 +4,7 @@ use mathlib.Core.Path.{_≡_, refl}
 use mathlib.Core.List.{List, [], _∷_}
 use denote.Ref.{now, ptr}
 use Rattle.wire.specs.Slices.{offsetBy}
-use Rattle.image.specs.Image.{imageNumber}
+use Rattle.image.specs.Refusal.{imageNumber}
 use Rattle.monitor.specs.Calls.{recordAnswer, extentAnswer, refusal, rewriteAnswer, rewriteOutput, turnsAnswer, turnsOutput, TurnsPromise, ViewPromise}
 use Rattle.monitor.specs.CallList.{TurnCall, imageAfter, KeptPromises}
 use Rattle.monitor.proofs.Keeps.{Keeps, imageOf, slotNumberOf, countOf, observerOf, outputOf, soleOutputOf, numberOf}

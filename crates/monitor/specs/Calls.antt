@@ -7,9 +7,10 @@ use lib.Dec.{leb, eqb}
 use lib.ListN.{length}
 use Rattle.wire.specs.Output.{overwrite}
 use Rattle.machine.specs.Machine.{turns, busy, view}
-use Rattle.image.specs.Refusal.{_then_, unless}
+use Rattle.image.specs.Refusal.{_then_, unless, imageNumber}
 use Rattle.image.specs.declared.Extent.{Extent}
-use Rattle.image.specs.Image.{imageNumber, stateOf, imageBytes, recordPart, recordExtent}
+use Rattle.image.specs.Image.{stateOf, imageBytes}
+use Rattle.image.specs.Part.{recordPart, recordExtent}
 use Rattle.monitor.specs.declared.Answer.{Answer}
 
 -- ---- record: the part of the image that holds a slot's record, and no number

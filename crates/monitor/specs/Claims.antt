@@ -10,7 +10,9 @@ use Rattle.machine.specs.State.{State, slotAt}
 use Rattle.machine.specs.Valid.{Valid}
 use Rattle.image.specs.Record.{recordBytes}
 use Rattle.image.specs.declared.Extent.{Extent}
-use Rattle.image.specs.Image.{imageNumber, stateOf, imageBytes, recordStart}
+use Rattle.image.specs.Image.{stateOf, imageBytes}
+use Rattle.image.specs.Part.{recordStart}
+use Rattle.image.specs.Refusal.{imageNumber}
 use Rattle.monitor.specs.declared.Answer.{Answer}
 use Rattle.monitor.specs.Calls.{recordAnswer, extentAnswer, Call, callAnswer, callOutput, rewriteCall, rewriteAnswer, rewriteOutput}
 use Rattle.monitor.specs.Calls.{turnsCall, turnsAnswer, viewBytes, viewCall, viewAnswer, ViewPromise}

@@ -7,7 +7,8 @@ use lib.ListN.{length, set, replicate}
 use Rattle.label.specs.Label.{flows}
 use Rattle.machine.specs.State.{Message, Task, Slot, unused, used, State, withKind, withSpare, withRegister, withMailbox, next}
 use Rattle.machine.specs.Machine.{turns, busy, view}
-use Rattle.image.specs.Image.{imageNumber, imageBytes}
+use Rattle.image.specs.Image.{imageBytes}
+use Rattle.image.specs.Refusal.{imageNumber}
 use Rattle.image.specs.Examples.{task, message, one, two}
 use Rattle.monitor.specs.Calls.{rewriteAnswer, turnsAnswer, viewBytes, viewAnswer}
 

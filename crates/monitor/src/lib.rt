@@ -2,9 +2,9 @@
 // them stands in specs/.
 ghost use mathlib.Core.Path.{_≡_};
 ghost use denote.Ref.{ptr};
-ghost use Rattle.wire.specs.Output.{written};
+ghost use Rattle.wire.specs.Inner.{written};
 ghost use Rattle.wire.specs.Slices.{offsetBy};
-ghost use Rattle.image.specs.Image.{imageNumber};
+ghost use Rattle.image.specs.Refusal.{imageNumber};
 ghost use Rattle.snapshot.specs.Writing.{snapshotBytes};
 ghost use Rattle.monitor.specs.Calls.{recordAnswer, extentAnswer, outputAnswer, refusal};
 ghost use Rattle.monitor.specs.Calls.{rewriteAnswer, rewriteOutput, turnsAnswer, turnsOutput, viewAnswer, viewOutput};

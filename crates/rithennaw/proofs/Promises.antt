@@ -5,7 +5,7 @@ use mathlib.Core.Path.{_≡_, refl, sym}
 use mathlib.Core.List.{List}
 use denote.Ref.{now}
 use Rattle.wire.specs.Lists.{Bytes}
-use Rattle.image.specs.Image.{imageNumber}
+use Rattle.image.specs.Refusal.{imageNumber}
 use Rattle.monitor.specs.declared.Answer.{Answer}
 use Rattle.monitor.specs.Calls.{Call, callAnswer, extentAnswer, rewriteAnswer, rewriteOutput, turnsAnswer, turnsOutput, TurnsPromise}
 use Rattle.monitor.specs.Calls.{viewCall, viewAnswer, viewOutput, ViewPromise}

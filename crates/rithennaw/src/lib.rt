@@ -3,7 +3,7 @@
 // a number promises as well that what it was lent as the image is bytes: with number 0 that makes an accepted image.
 ghost use mathlib.Core.Path.{_≡_};
 ghost use Rattle.wire.specs.Lists.{Bytes};
-ghost use Rattle.image.specs.Image.{imageNumber};
+ghost use Rattle.image.specs.Refusal.{imageNumber};
 ghost use Rattle.monitor.specs.Calls.{extentAnswer, rewriteAnswer, rewriteOutput, turnsAnswer, turnsOutput, viewAnswer, viewOutput};
 ghost use Rattle.sheet.specs.Sheet.{sheetAnswer, sheetOutput};
 

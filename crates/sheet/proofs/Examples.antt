@@ -10,6 +10,7 @@ use Rattle.machine.specs.Turn as Turn
 use Rattle.machine.specs.View as View
 use Rattle.machine.specs.Valid as Valid
 use Rattle.image.specs.Image as Image
+use Rattle.image.specs.Refusal as Refusal
 use Rattle.sheet.specs.Text as Text
 use Rattle.sheet.specs.Sheet as Sheet
 use Rattle.sheet.specs.Claims.{Prints}
@@ -17,10 +18,10 @@ use Rattle.sheet.proofs.Printed.{printed-long}
 
 pub prints : Prints
 unfolding Lists.each Lists.tabulate Label.flows Table.decode Program.instructionAt Effect.execute Effect.outcome Turn.turnBy
-    Turn.turnsBy View.viewBy Program.allLegal Lists.all Items.decodeItems Items.encodeItems Image.programLength Image.slotsPart Image.versionNumber
-    Valid.isProgramLength Image.programNumber Image.turnSlotNumber Image.recordLength Image.skip Image.slotsOf
-    Image.isRecordLength Image.slotNumber Image.slotsNumber Image.tailNumber Valid.sparesUnused
-    Image.spareNumber Image.imageNumber Image.stateOf Image.imageBytes
+    Turn.turnsBy View.viewBy Program.allLegal Lists.all Items.decodeItems Items.encodeItems Image.programLength Image.slotsPart Refusal.versionNumber
+    Valid.isProgramLength Refusal.programNumber Refusal.turnSlotNumber Image.recordLength Image.skip Image.slotsOf
+    Refusal.isRecordLength Refusal.slotNumber Refusal.slotsNumber Refusal.tailNumber Valid.sparesUnused
+    Refusal.spareNumber Refusal.imageNumber Image.stateOf Image.imageBytes
     Text.ascii Text.digits Text.decimal Text.spaced Text.lineRest
     Sheet.heading Sheet.slotLine Sheet.slotLines Sheet.sheetText Sheet.refusalLine Sheet.printed
 prints = record {

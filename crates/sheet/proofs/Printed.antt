@@ -11,8 +11,7 @@ use lib.ListN.{length, getD, drop}
 use Rattle.wire.specs.Lists.{Bytes}
 use Rattle.wire.specs.Output.{overwrite}
 use Rattle.wire.proofs.Lists.{split}
-use Rattle.image.specs.Refusal.{_then_, unless}
-use Rattle.image.specs.Image.{imageNumber}
+use Rattle.image.specs.Refusal.{_then_, unless, imageNumber}
 use Rattle.image.proofs.Refusal.{then-right, then-stop, then-assoc, then-holds, unless-holds}
 use Rattle.image.proofs.Image.{image-listed}
 use Rattle.monitor.specs.Calls.{callNumber, callAnswer, callOutput}

@@ -16,7 +16,8 @@ use Rattle.machine.specs.Valid.{ValidSlot, Valid}
 use Rattle.machine.proofs.Rules.{size-facts, task-facts}
 use Rattle.machine.proofs.Mailbox.{mailbox-64}
 use Rattle.machine.proofs.Machine.{view-valid}
-use Rattle.image.specs.Image.{imageNumber, stateOf}
+use Rattle.image.specs.Image.{stateOf}
+use Rattle.image.specs.Refusal.{imageNumber}
 use Rattle.image.proofs.Image.{accepted-valid}
 use Rattle.table.specs.Table.{slotsIn}
 use Rattle.sheet.specs.Text.{ascii, decimal, spaced, lineRest}

@@ -9,8 +9,8 @@ use Rattle.wire.specs.Lists.{tabulate}
 use Rattle.wire.specs.Items.{encodeItems}
 use Rattle.machine.specs.State.{Slot, unused, used, State, slotAt}
 use Rattle.machine.specs.Machine.{view}
-use Rattle.image.specs.Refusal.{_then_, unless}
-use Rattle.image.specs.Image.{imageNumber, stateOf}
+use Rattle.image.specs.Refusal.{_then_, unless, imageNumber}
+use Rattle.image.specs.Image.{stateOf}
 use Rattle.monitor.specs.declared.Answer.{Answer}
 use Rattle.monitor.specs.Calls.{Call, callAnswer, callOutput}
 use Rattle.sheet.specs.Text.{ascii, decimal, lineRest}

@@ -18,7 +18,8 @@ use Rattle.wire.specs.Items.{decodeItems}
 use Rattle.wire.proofs.Items.{length-decode, decode-more}
 use Rattle.machine.specs.State.{Message, Task, Slot, unused, used, slotAt, withRegister, withRegisters, withMailbox}
 use Rattle.image.specs.Record.{messageOf, taskOf, slotOf}
-use Rattle.image.specs.Image.{recordOf, skip, slotsOf, slotsPart, programOf, imageNumber, stateOf}
+use Rattle.image.specs.Image.{recordOf, skip, slotsOf, slotsPart, programOf, stateOf}
+use Rattle.image.specs.Refusal.{imageNumber}
 use Rattle.image.proofs.Slots.{length-slotsOf, slot-at}
 use Rattle.image.proofs.Image.{accepted-valid}
 use Rattle.image.proofs.Records.{slot-some}

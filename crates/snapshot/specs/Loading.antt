@@ -7,7 +7,8 @@ use lib.ListN.{length, getD, drop}
 use Rattle.wire.specs.Numbers.{decodeNumber}
 use Rattle.machine.specs.State.{Task, Slot, withRegister}
 use Rattle.image.specs.Record.{kindAt, mailboxAt, messageSize, messageOf}
-use Rattle.image.specs.Image.{recordOf, skip, imageNumber, stateOf}
+use Rattle.image.specs.Image.{recordOf, skip, stateOf}
+use Rattle.image.specs.Refusal.{imageNumber}
 use Rattle.table.specs.Table.{mailboxRoom}
 use Rattle.table.specs.Change.{withMessage}
 

@@ -10,7 +10,7 @@ use lib.ListN.{length, getD, take, set, length-set}
 use lib.Seq.{getD-set-same, getD-set-other}
 use Rattle.wire.proofs.Tabulate.{take-tabulate, tabulate-without}
 use Rattle.machine.specs.State.{withMailbox}
-use Rattle.wire.specs.Lists.{without}
+use Rattle.wire.specs.Inner.{without}
 use Rattle.table.specs.Table.{window, messageIn, messagesIn, taskIn}
 use Rattle.table.specs.Words.{SlotStored, shifted}
 use Rattle.table.proofs.Window.{word-at, stored-set, stored-then}

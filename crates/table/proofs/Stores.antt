@@ -4,7 +4,7 @@ use mathlib.Core.Path.{_≡_, refl, sym, ap, _∙_}
 use mathlib.Core.List.{List}
 use native.Mathlib.Omega.{arith}
 use lib.ListN.{length, getD, take, set, length-set}
-use Rattle.wire.specs.Lists.{without}
+use Rattle.wire.specs.Inner.{without}
 use Rattle.wire.proofs.Lists.{take-length-take, take-append}
 use Rattle.wire.proofs.Tabulate.{length-tabulate}
 use Rattle.machine.specs.State.{Message, Task, used, slotAt, withMailbox}

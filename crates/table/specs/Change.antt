@@ -2,7 +2,7 @@
 use Prim.Native.Nat.{ℕ}
 use mathlib.Core.List.{List, [], _∷_, _++_}
 use lib.ListN.{getD, set, take, replicate}
-use Rattle.wire.specs.Lists.{without}
+use Rattle.wire.specs.Inner.{without}
 use Rattle.machine.specs.State.{Message, Task, Slot, unused, used, slotAt, withKind, withMailbox}
 use Rattle.table.specs.Table.{mailboxRoom, held}
 

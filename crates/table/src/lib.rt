@@ -5,7 +5,7 @@ ghost use mathlib.Core.Path.{_≡_};
 ghost use mathlib.Core.List.{map};
 ghost use lib.Dec.{eqb};
 ghost use lib.ListN.{length, getD, set, take, drop};
-ghost use Rattle.wire.specs.Lists.{firstIndex};
+ghost use Rattle.wire.specs.Inner.{firstIndex};
 ghost use Rattle.label.specs.Label.{flows};
 ghost use Rattle.machine.specs.State.{unused, slotAt, register, withLabel, withSpare, withPc, withRegister};
 ghost use Rattle.machine.specs.Turn.{ofLabel};

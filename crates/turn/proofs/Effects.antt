@@ -11,7 +11,8 @@ use lib.Dec.{eqb}
 use lib.ListN.{length, set, length-append}
 use lib.Seq.{set-getD, take-all}
 use Rattle.label.specs.Label.{flows, join}
-use Rattle.wire.specs.Lists.{without, dropFirst, firstIndex}
+use Rattle.wire.specs.Lists.{dropFirst}
+use Rattle.wire.specs.Inner.{without, firstIndex}
 use Rattle.wire.proofs.Lists.{first-none, first-some, first-without}
 use Rattle.instruction.specs.declared.Instruction.{Instruction}
 use Rattle.instruction.specs.declared.Instruction.the-variants.{End, Set, Copy, Add, Subtract, Go, Zero, Raise, Send, Take, Poll, Sandbox, Identity}

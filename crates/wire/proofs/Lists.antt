@@ -10,7 +10,8 @@ use native.Mathlib.Numerals.{add-one}
 use native.Mathlib.Omega.{arith}
 use lib.ListN.{length, getD, set, take, drop, length-append, drop-of-length-le}
 use lib.Seq.{take-all, drop-cons, take-suc-set}
-use Rattle.wire.specs.Lists.{each, without, Every, all, keep, dropFirst, firstIndex, IsByte, Bytes}
+use Rattle.wire.specs.Lists.{each, Every, all, keep, dropFirst, IsByte, Bytes}
+use Rattle.wire.specs.Inner.{without, firstIndex}
 
 -- ---- cases
 

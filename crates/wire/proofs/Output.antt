@@ -10,7 +10,8 @@ use borrow.Rule.Slice.PartMut.{putMid}
 use lib.Dec.{leb}
 use lib.ListN.{length, getD, take, drop, set, length-append, length-drop, drop-of-length-le}
 use lib.Seq.{take-append-seam, drop-append-seam, take-at, drop-at, drop-drop, paste-suc, take-all, sets, sets-eq}
-use Rattle.wire.specs.Output.{overwrite, written}
+use Rattle.wire.specs.Output.{overwrite}
+use Rattle.wire.specs.Inner.{written}
 use Rattle.wire.specs.Items.{encodeItems}
 use Rattle.wire.proofs.Lists.{split}
 use Rattle.wire.proofs.Items.{items-next}

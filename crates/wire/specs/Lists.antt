@@ -1,8 +1,7 @@
--- Lists by index, and tests over numbers and lists: each number below a bound, each element, the elements that pass.
+-- Tests over numbers and lists: each number below a bound, each element, the elements that pass.
 use Prim.Native.Nat.{ℕ, zero, suc, _<_}
 use mathlib.Core.Bool.{Bool, true, cond, _&&_}
-use mathlib.Core.List.{List, [], _∷_, _++_}
-use lib.ListN.{take, drop}
+use mathlib.Core.List.{List, [], _∷_}
 
 -- f passes at each number below n
 unfoldable pub each : ℕ → (ℕ → Bool) → Bool
@@ -14,10 +13,6 @@ module _ {A : Type 0} where
   unfoldable pub tabulate : ℕ → (ℕ → A) → List A
   tabulate zero f = []
   tabulate (suc n) f = f 0 ∷ tabulate n (λ i. f (suc i))
-
-  -- all but the element at index i
-  abbrev pub without : ℕ → List A → List A
-  without i xs = take i xs ++ drop (suc i) xs
 
   -- P holds of every element
   abbrev pub Every : (A → Type 0) → List A → Type 0
@@ -38,11 +33,6 @@ module _ {A : Type 0} where
   abbrev pub dropFirst : (A → Bool) → List A → List A
   dropFirst p [] = []
   dropFirst p (x ∷ xs) = cond (p x) xs (x ∷ dropFirst p xs)
-
-  -- the index of the first element at which p passes, the length where there is none
-  abbrev pub firstIndex : (A → Bool) → List A → ℕ
-  firstIndex p [] = 0
-  firstIndex p (x ∷ xs) = cond (p x) 0 (suc (firstIndex p xs))
 
 -- x is a byte, and every element of a list is
 abbrev pub IsByte : ℕ → Type 0

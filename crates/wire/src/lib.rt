@@ -6,7 +6,7 @@ ghost use mathlib.Core.List.{[], _∷_};
 ghost use denote.Ref.{ptr};
 ghost use lib.ListN.{length, getD, take, drop};
 ghost use Rattle.wire.specs.Numbers.{decodeNumber, encodeNumber};
-ghost use Rattle.wire.specs.Output.{written};
+ghost use Rattle.wire.specs.Inner.{written};
 ghost use Rattle.wire.specs.Slices.{offsetBy};
 
 // Byte i of s, and 0 past its end.

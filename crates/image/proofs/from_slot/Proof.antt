@@ -1,5 +1,5 @@
 -- `image::from_slot` meets its contract: the test is that of `fromSlot`.
-use Rattle.image.specs.Image.{fromSlot}
+use Rattle.image.specs.Inner.{fromSlot}
 use Rattle.image.proofs.from_slot.Statement.{statement}
 use Rattle.image.proofs.from_slot.Tie as tie
 

@@ -2,7 +2,7 @@
 use borrow.Author.Tests.{lt-leb, le-leb, ne-eqb}
 use mathlib.Core.Bool.{or-false}
 use native.Mathlib.Omega.{arith}
-use Rattle.image.specs.Image.{isRecordLength}
+use Rattle.image.specs.Refusal.{isRecordLength}
 use Rattle.image.proofs.is_record_length.Statement.{statement}
 use Rattle.image.proofs.is_record_length.Tie as tie
 

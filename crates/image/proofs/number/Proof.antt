@@ -2,8 +2,8 @@
 use mathlib.Core.Path.{_≡_}
 use denote.Ref.{now}
 use Rattle.instruction.specs.Program.{count}
-use Rattle.image.specs.Refusal.{_then_}
-use Rattle.image.specs.Image.{programOf, slotsPart, slotsNumber, tailNumber, spareNumber, imageNumber}
+use Rattle.image.specs.Refusal.{_then_, slotsNumber, tailNumber, spareNumber, imageNumber}
+use Rattle.image.specs.Image.{programOf, slotsPart}
 use Rattle.image.proofs.Refusal.{then-stop}
 use Rattle.image.proofs.Image.{image-number}
 use Rattle.image.proofs.number.Statement.{statement}

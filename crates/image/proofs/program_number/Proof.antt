@@ -1,7 +1,7 @@
 -- `image::program_number` meets its contract: at each return the tests before it decide the number.
 use borrow.Author.Tests.{lt-leb, le-leb}
 use native.Mathlib.Omega.{arith}
-use Rattle.image.specs.Image.{programNumber}
+use Rattle.image.specs.Refusal.{programNumber}
 use Rattle.image.proofs.program_number.Statement.{statement}
 use Rattle.image.proofs.program_number.Tie as tie
 

@@ -6,9 +6,9 @@ use native.Mathlib.Omega.{arith}
 use denote.Ref.{now}
 use lib.Dec.{leb}
 use lib.ListN.{length}
-use Rattle.image.specs.Refusal.{_then_, unless}
-use Rattle.image.specs.Record.{slotOf, recordNumber}
-use Rattle.image.specs.Image.{recordOf, slotNumber}
+use Rattle.image.specs.Refusal.{_then_, unless, recordNumber, slotNumber}
+use Rattle.image.specs.Record.{slotOf}
+use Rattle.image.specs.Image.{recordOf}
 use Rattle.image.proofs.slot_number.Statement.{statement}
 use Rattle.image.proofs.slot_number.Tie as tie
 

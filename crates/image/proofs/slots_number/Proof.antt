@@ -2,7 +2,7 @@
 use Prim.Native.Nat.{_≤_, _-_}
 use mathlib.Core.Path.{_≡_, refl, sym}
 use native.Mathlib.Omega.{arith}
-use Rattle.image.specs.Image.{slotsNumber}
+use Rattle.image.specs.Refusal.{slotsNumber}
 use Rattle.image.proofs.Refusal.{then-stop}
 use Rattle.image.proofs.Walk.{slots-first, slots-done}
 use Rattle.image.proofs.slots_number.Statement.{statement}

@@ -1,5 +1,5 @@
 -- `image::spare_number` meets its contract, by what it calls.
-use Rattle.image.specs.Image.{spareNumber}
+use Rattle.image.specs.Refusal.{spareNumber}
 use Rattle.image.proofs.spare_number.Statement.{statement}
 use Rattle.image.proofs.spare_number.Tie as tie
 

@@ -1,5 +1,5 @@
 -- `image::tail_number` meets its contract, by what it calls.
-use Rattle.image.specs.Image.{tailNumber}
+use Rattle.image.specs.Refusal.{tailNumber}
 use Rattle.image.proofs.tail_number.Statement.{statement}
 use Rattle.image.proofs.tail_number.Tie as tie
 

@@ -1,7 +1,7 @@
 -- `image::turn_slot_number` meets its contract: at each return the tests before it decide the number.
 use borrow.Author.Tests.{lt-leb, le-leb}
 use native.Mathlib.Omega.{arith}
-use Rattle.image.specs.Image.{turnSlotNumber}
+use Rattle.image.specs.Refusal.{turnSlotNumber}
 use Rattle.image.proofs.turn_slot_number.Statement.{statement}
 use Rattle.image.proofs.turn_slot_number.Tie as tie
 

@@ -1,6 +1,6 @@
 -- `image::version_number` meets its contract: at each return the tests before it decide the number.
 use borrow.Author.Tests.{lt-leb, le-leb}
-use Rattle.image.specs.Image.{versionNumber}
+use Rattle.image.specs.Refusal.{versionNumber}
 use Rattle.image.proofs.version_number.Statement.{statement}
 use Rattle.image.proofs.version_number.Tie as tie
 

@@ -10,7 +10,8 @@ use Rattle.wire.specs.Lists.{IsByte, Bytes}
 use Rattle.wire.proofs.Lists.{every-of}
 use Rattle.machine.specs.State.{State}
 use Rattle.machine.specs.Machine as Machine
-use Rattle.image.specs.Image.{imageNumber, stateOf}
+use Rattle.image.specs.Image.{stateOf}
+use Rattle.image.specs.Refusal.{imageNumber}
 use Rattle.table.specs.Table.{stateIn}
 use Rattle.snapshot.specs.Writing.{snapshotBytes}
 use Rattle.snapshot.proofs.Loading.{loaded-accepted}

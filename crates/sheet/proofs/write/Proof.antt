@@ -6,7 +6,8 @@ use borrow.Author.Tests.{le-leb, lt-leb}
 use denote.Ref.{now}
 use Rattle.wire.specs.Lists.{IsByte}
 use Rattle.wire.proofs.Lists.{every-of}
-use Rattle.image.specs.Image.{imageNumber, stateOf}
+use Rattle.image.specs.Image.{stateOf}
+use Rattle.image.specs.Refusal.{imageNumber}
 use Rattle.snapshot.proofs.Loading.{loaded-accepted}
 use Rattle.monitor.proofs.Calls.{call-beyond, call-refused, call-accepted}
 use Rattle.sheet.specs.Sheet.{sheetBytes}

@@ -6,7 +6,7 @@ use mathlib.Core.List.{List}
 use native.Mathlib.Omega.{arith}
 use denote.Ref.{now}
 use lib.ListN.{length, take}
-use Rattle.wire.specs.Output.{written}
+use Rattle.wire.specs.Inner.{written}
 use Rattle.wire.proofs.Output.{written-front}
 use Rattle.monitor.proofs.Calls.{told-fits, told-13}
 use Rattle.sheet.specs.Shown.{shownSheet}

@@ -5,7 +5,7 @@ use mathlib.Core.Bool.{Bool}
 use native.Mathlib.Omega.{arith}
 use denote.Ref.{now}
 use lib.ListN.{length}
-use Rattle.wire.specs.Lists.{firstIndex}
+use Rattle.wire.specs.Inner.{firstIndex}
 use Rattle.wire.proofs.Lists.{first-here, first-next, first-past, first-alike}
 use Rattle.label.specs.Label.{flows}
 use Rattle.table.specs.Table.{slotsIn}
