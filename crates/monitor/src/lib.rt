@@ -54,7 +54,7 @@ pub fn refused(number: u8) -> Answer
 // no room for them.
 fn write_answer(
     out: &mut [u8],
-    table: &[u32; 3328],
+    table: &table::Table,
     image: &[u8],
     turn: u8,
     observer: u8,
@@ -83,7 +83,7 @@ pub fn view(image: &[u8], observer: u32, out: &mut [u8]) -> Answer
     if observer > 15 {
         return refused(1);
     }
-    let mut table: [u32; 3328] = [0; 3328];
+    let mut table: table::Table = [0; table::WORDS];
     let number = snapshot::load(&mut table, image);
     if number == 0 {
         let turn = image::turn_slot(image);
@@ -112,7 +112,7 @@ pub fn turns(image: &[u8], count: u64, out: &mut [u8]) -> Answer
     if count > TURN_LIMIT {
         return refused(2);
     }
-    let mut table: [u32; 3328] = [0; 3328];
+    let mut table: table::Table = [0; table::WORDS];
     let number = snapshot::load(&mut table, image);
     if number == 0 {
         let turn = image::turn_slot(image);

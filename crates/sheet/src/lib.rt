@@ -73,7 +73,7 @@ fn put_line_rest(out: &mut [u8], numbers: &[u32]) -> usize
 // ---- the sheet
 
 // Writes the line of a task that the observer sees: how many bytes.
-fn put_task_line(out: &mut [u8], table: &[u32; 3328], slot: u8, observer: u8) -> usize
+fn put_task_line(out: &mut [u8], table: &table::Table, slot: u8, observer: u8) -> usize
     requires { ⌜ length (shownTaskLine observer slot (taskAt (slotsIn (now table)) slot)) ≤ length (now out) ⌝ }
     ensures { λ r. ⌜ (r ≡ length (shownTaskLine observer slot (taskAt (slotsIn (now (table .entry))) slot)))
         × (now (out .exit) ≡ overwrite (shownTaskLine observer slot (taskAt (slotsIn (now (table .entry))) slot)) (now (out .entry))) ⌝ }
@@ -89,7 +89,7 @@ fn put_task_line(out: &mut [u8], table: &[u32; 3328], slot: u8, observer: u8) ->
 }
 
 // Writes the line of a slot, where the observer sees a task in it: how many bytes.
-fn put_line(out: &mut [u8], table: &[u32; 3328], slot: u8, observer: u8) -> usize
+fn put_line(out: &mut [u8], table: &table::Table, slot: u8, observer: u8) -> usize
     requires { ⌜ length (shownLine observer (slotsIn (now table)) slot) ≤ length (now out) ⌝ }
     ensures { λ r. ⌜ (r ≡ length (shownLine observer (slotsIn (now (table .entry))) slot))
         × (now (out .exit) ≡ overwrite (shownLine observer (slotsIn (now (table .entry))) slot) (now (out .entry))) ⌝ }
@@ -102,7 +102,7 @@ fn put_line(out: &mut [u8], table: &[u32; 3328], slot: u8, observer: u8) -> usiz
 }
 
 // Writes the lines of all slots: how many bytes.
-fn put_lines(out: &mut [u8], table: &[u32; 3328], observer: u8) -> usize
+fn put_lines(out: &mut [u8], table: &table::Table, observer: u8) -> usize
     requires { ⌜ length (shownLines observer (slotsIn (now table))) ≤ length (now out) ⌝ }
     ensures { λ r. ⌜ (r ≡ length (shownLines observer (slotsIn (now (table .entry)))))
         × (now (out .exit) ≡ overwrite (shownLines observer (slotsIn (now (table .entry)))) (now (out .entry))) ⌝ }
@@ -120,7 +120,7 @@ fn put_lines(out: &mut [u8], table: &[u32; 3328], observer: u8) -> usize
 const HEADING_LENGTH: usize = 30;
 
 // Writes the heading and the lines: how many bytes.
-fn put_sheet(out: &mut [u8], table: &[u32; 3328], observer: u8) -> usize
+fn put_sheet(out: &mut [u8], table: &table::Table, observer: u8) -> usize
     requires { ⌜ length (shownSheet observer (now table)) ≤ length (now out) ⌝ }
     ensures { λ r. ⌜ (r ≡ length (shownSheet observer (now (table .entry))))
         × (now (out .exit) ≡ overwrite (shownSheet observer (now (table .entry))) (now (out .entry))) ⌝ }
@@ -131,7 +131,7 @@ fn put_sheet(out: &mut [u8], table: &[u32; 3328], observer: u8) -> usize
 
 // Ends a call whose image is accepted: writes the sheet of the table's tasks as the observer sees them, or tells 13 where
 // the output has no room for it. The sheet is made in a buffer of its own first: only then is its length known.
-fn write_answer(out: &mut [u8], table: &[u32; 3328], observer: u8) -> monitor::Answer
+fn write_answer(out: &mut [u8], table: &table::Table, observer: u8) -> monitor::Answer
     requires { ⌜ length (shownSheet observer (now table)) ≤ 318 ⌝ }
     ensures { λ r. ⌜ (r ≡ outputAnswer (shownSheet observer (now (table .entry))) 0 (now (out .entry)))
         × (now (out .exit) ≡ written (shownSheet observer (now (table .entry))) (now (out .entry))) ⌝ }
@@ -158,7 +158,7 @@ pub fn write(image: &[u8], observer: u32, out: &mut [u8]) -> monitor::Answer
     if observer > 15 {
         return monitor::refused(1);
     }
-    let mut table: [u32; 3328] = [0; 3328];
+    let mut table: table::Table = [0; table::WORDS];
     let number = snapshot::load(&mut table, image);
     if number == 0 {
         write_answer(out, &table, observer as u8)

@@ -21,7 +21,7 @@ ghost use Rattle.snapshot.specs.Writing.{snapshotBytes, headBytes, shown
 // ---- load
 
 // Sets the eight registers of the task in a slot.
-fn load_registers(table: &mut [u32; 3328], slot: usize, registers: &[u8])
+fn load_registers(table: &mut table::Table, slot: usize, registers: &[u8])
     ensures { λ _. ⌜ slotsIn (now (table .exit)) ≡ change slot (registersSet 8 (now (registers .entry))) (slotsIn (now (table .entry))) ⌝ }
 {
     let mut a: usize = 0;
@@ -33,7 +33,7 @@ fn load_registers(table: &mut [u32; 3328], slot: usize, registers: &[u8])
 }
 
 // Adds the messages to the mailbox of the task in a slot.
-fn load_mailbox(table: &mut [u32; 3328], slot: usize, mailbox: &[u8])
+fn load_mailbox(table: &mut table::Table, slot: usize, mailbox: &[u8])
     ensures { λ _. ⌜ slotsIn (now (table .exit))
         ≡ change slot (messagesAdded (length (now (mailbox .entry)) / messageSize) (now (mailbox .entry))) (slotsIn (now (table .entry))) ⌝ }
 {
@@ -54,7 +54,7 @@ fn load_mailbox(table: &mut [u32; 3328], slot: usize, mailbox: &[u8])
 }
 
 // Puts the task of a record into a slot.
-fn load_task(table: &mut [u32; 3328], slot: usize, bytes: &[u8])
+fn load_task(table: &mut table::Table, slot: usize, bytes: &[u8])
     requires { ⌜ Loadable (now bytes) ⌝ }
     ensures { λ _. ⌜ slotsIn (now (table .exit)) ≡ set (slotsIn (now (table .entry))) slot (used (taskOf (now (bytes .entry)))) ⌝ }
 {
@@ -72,7 +72,7 @@ fn load_task(table: &mut [u32; 3328], slot: usize, bytes: &[u8])
 }
 
 // Puts what a record holds into a slot: no bytes are an unused slot.
-fn load_slot(table: &mut [u32; 3328], slot: usize, bytes: &[u8])
+fn load_slot(table: &mut table::Table, slot: usize, bytes: &[u8])
     requires { ⌜ LoadableSlot (now bytes) ⌝ }
     ensures { λ _. ⌜ slotsIn (now (table .exit)) ≡ set (slotsIn (now (table .entry))) slot (slotOf (now (bytes .entry))) ⌝ }
 {
@@ -84,7 +84,7 @@ fn load_slot(table: &mut [u32; 3328], slot: usize, bytes: &[u8])
 }
 
 // Loads slots 0 to 15.
-fn load_slots(table: &mut [u32; 3328], slots: &[u8])
+fn load_slots(table: &mut table::Table, slots: &[u8])
     requires { ⌜ LoadableSlots (now slots) ⌝ }
     ensures { λ _. ⌜ slotsIn (now (table .exit)) ≡ slotsOf 16 (now (slots .entry)) ⌝ }
 {
@@ -99,7 +99,7 @@ fn load_slots(table: &mut [u32; 3328], slots: &[u8])
 }
 
 // Checks an image and loads it, where it is accepted, into the table: the number of the image.
-pub fn load(table: &mut [u32; 3328], image: &[u8]) -> u8
+pub fn load(table: &mut table::Table, image: &[u8]) -> u8
     ensures { λ r. ⌜ (r ≡ imageNumber (now (image .entry))) × (slotsIn (now (table .exit)) ≡ loaded (now (image .entry)) (slotsIn (now (table .entry)))) ⌝ }
 {
     let number = image::number(image);
@@ -112,14 +112,14 @@ pub fn load(table: &mut [u32; 3328], image: &[u8]) -> u8
 // ---- what an observer sees
 
 // Whether the observer sees a task in a slot.
-pub fn is_shown(table: &[u32; 3328], slot: usize, observer: u8) -> bool
+pub fn is_shown(table: &table::Table, slot: usize, observer: u8) -> bool
     ensures { λ r. ⌜ r ≡ isShown observer (slotAt (slotsIn (now (table .entry))) slot) ⌝ }
 {
     (table::kind(table, slot) != 0) & label::flows(table::label(table, slot), observer)
 }
 
 // How many messages of a mailbox the observer sees.
-pub fn mail_shown(table: &[u32; 3328], slot: usize, observer: u8) -> usize
+pub fn mail_shown(table: &table::Table, slot: usize, observer: u8) -> usize
     ensures { λ r. ⌜ (r ≡ length (viewTask (λ l. flows l observer) (taskAt (slotsIn (now (table .entry))) slot) .mailbox)) × (r ≤ 64) ⌝ }
 {
     let count = table::mailbox_length(table, slot);
@@ -140,14 +140,14 @@ const REGISTERS_FROM: usize = 2 + image::REGISTERS_AT;
 const MAILBOX_FROM: usize = 2 + image::MAILBOX_AT;
 
 // How many bytes of a mailbox.
-fn mailbox_size(table: &[u32; 3328], slot: usize, observer: u8) -> usize
+fn mailbox_size(table: &table::Table, slot: usize, observer: u8) -> usize
     ensures { λ r. ⌜ (r ≡ length (encodeItems (shownMessage observer) (taskAt (slotsIn (now (table .entry))) slot .mailbox))) × (r ≤ 384) ⌝ }
 {
     image::MESSAGE_SIZE * mail_shown(table, slot, observer)
 }
 
 // How many bytes of a slot, with the length in front.
-fn slot_size(table: &[u32; 3328], slot: usize, observer: u8) -> usize
+fn slot_size(table: &table::Table, slot: usize, observer: u8) -> usize
     ensures { λ r. ⌜ (r ≡ length (shownSlot observer (slotAt (slotsIn (now (table .entry))) slot))) × (r ≤ 423) ⌝ }
 {
     if is_shown(table, slot, observer) {
@@ -158,7 +158,7 @@ fn slot_size(table: &[u32; 3328], slot: usize, observer: u8) -> usize
 }
 
 // How many bytes of all slots.
-fn slots_size(table: &[u32; 3328], observer: u8) -> usize
+fn slots_size(table: &table::Table, observer: u8) -> usize
     ensures { λ r. ⌜ (r ≡ length (encodeItems (shownSlot observer) (slotsIn (now (table .entry))))) × (r ≤ 6768) ⌝ }
 {
     let mut n: usize = 0;
@@ -173,7 +173,7 @@ fn slots_size(table: &[u32; 3328], observer: u8) -> usize
 // ---- write
 
 // Writes the message, where the observer sees it: how many bytes.
-fn write_message(out: &mut [u8], table: &[u32; 3328], slot: usize, i: usize, observer: u8) -> usize
+fn write_message(out: &mut [u8], table: &table::Table, slot: usize, i: usize, observer: u8) -> usize
     requires { ⌜ length (shownMessage observer (messageAt (slotsIn (now table)) slot i)) ≤ length (now out) ⌝ }
     ensures { λ r. ⌜ (r ≡ length (shownMessage observer (messageAt (slotsIn (now (table .entry))) slot i))) × (r ≤ 6)
         × (now (out .exit) ≡ overwrite (shownMessage observer (messageAt (slotsIn (now (table .entry))) slot i)) (now (out .entry))) ⌝ }
@@ -200,7 +200,7 @@ fn put_message(out: &mut [u8], label: u8, sender: u8, value: u32)
 }
 
 // Writes the messages of a mailbox that the observer sees, each behind the one before.
-fn write_mailbox(out: &mut [u8], table: &[u32; 3328], slot: usize, observer: u8)
+fn write_mailbox(out: &mut [u8], table: &table::Table, slot: usize, observer: u8)
     requires { ⌜ length (encodeItems (shownMessage observer) (taskAt (slotsIn (now table)) slot .mailbox)) ≤ length (now out) ⌝ }
     ensures { λ _. ⌜ now (out .exit) ≡ overwrite (encodeItems (shownMessage observer) (taskAt (slotsIn (now (table .entry))) slot .mailbox)) (now (out .entry)) ⌝ }
 {
@@ -214,7 +214,7 @@ fn write_mailbox(out: &mut [u8], table: &[u32; 3328], slot: usize, observer: u8)
 }
 
 // Writes the eight registers of a task.
-fn write_registers(out: &mut [u8], table: &[u32; 3328], slot: usize)
+fn write_registers(out: &mut [u8], table: &table::Table, slot: usize)
     requires { ⌜ (32 ≤ length (now out)) × (length (taskAt (slotsIn (now table)) slot .registers) ≡ 8) ⌝ }
     ensures { λ _. ⌜ now (out .exit) ≡ overwrite (encodeItems (encodeNumber 4) (taskAt (slotsIn (now (table .entry))) slot .registers)) (now (out .entry)) ⌝ }
 {
@@ -238,7 +238,7 @@ fn write_fields(out: &mut [u8], size: usize, kind: u8, label: u8, spare: u8, pc:
 }
 
 // Writes a task that the observer sees: the record's length, the fields, the registers and the mailbox. How many bytes.
-fn write_task(out: &mut [u8], table: &[u32; 3328], slot: usize, observer: u8) -> usize
+fn write_task(out: &mut [u8], table: &table::Table, slot: usize, observer: u8) -> usize
     requires { ⌜ (length (taskAt (slotsIn (now table)) slot .registers) ≡ 8)
         × (39 + length (encodeItems (shownMessage observer) (taskAt (slotsIn (now table)) slot .mailbox)) ≤ length (now out)) ⌝ }
     ensures { λ r. ⌜ (r ≡ length (shownTask observer (taskAt (slotsIn (now (table .entry))) slot))) × (r ≤ 423)
@@ -256,7 +256,7 @@ fn write_task(out: &mut [u8], table: &[u32; 3328], slot: usize, observer: u8) ->
 }
 
 // Writes a slot's record behind its length; where the observer sees no task, the slot is written as unused. How many bytes.
-fn write_slot(out: &mut [u8], table: &[u32; 3328], slot: usize, observer: u8) -> usize
+fn write_slot(out: &mut [u8], table: &table::Table, slot: usize, observer: u8) -> usize
     requires { ⌜ length (shownSlot observer (slotAt (slotsIn (now table)) slot)) ≤ length (now out) ⌝ }
     ensures { λ r. ⌜ (r ≡ length (shownSlot observer (slotAt (slotsIn (now (table .entry))) slot))) × (r ≤ 423)
         × (now (out .exit) ≡ overwrite (shownSlot observer (slotAt (slotsIn (now (table .entry))) slot)) (now (out .entry))) ⌝ }
@@ -270,7 +270,7 @@ fn write_slot(out: &mut [u8], table: &[u32; 3328], slot: usize, observer: u8) ->
 }
 
 // Writes the sixteen slots, each into the part of the output that begins where the one before it ends.
-fn write_slots(out: &mut [u8], table: &[u32; 3328], observer: u8)
+fn write_slots(out: &mut [u8], table: &table::Table, observer: u8)
     requires { ⌜ length (encodeItems (shownSlot observer) (slotsIn (now table))) ≤ length (now out) ⌝ }
     ensures { λ _. ⌜ now (out .exit) ≡ overwrite (encodeItems (shownSlot observer) (slotsIn (now (table .entry)))) (now (out .entry)) ⌝ }
 {
@@ -295,7 +295,7 @@ fn write_head(out: &mut [u8], program: &[u8], turn: u8)
 
 // Writes the table's tasks as the observer sees them, with the image's program, as an image: its length, and its bytes
 // where the output has room for them all.
-pub fn write(out: &mut [u8], table: &[u32; 3328], image: &[u8], turn: u8, observer: u8) -> usize
+pub fn write(out: &mut [u8], table: &table::Table, image: &[u8], turn: u8, observer: u8) -> usize
     ensures { λ r. ⌜ (r ≡ length (snapshotBytes (now (table .entry)) (now (image .entry)) turn observer))
         × (now (out .exit) ≡ written (snapshotBytes (now (table .entry)) (now (image .entry)) turn observer) (now (out .entry))) ⌝ }
 {

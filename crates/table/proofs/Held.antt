@@ -8,7 +8,7 @@ use lib.ListN.{length, set}
 use lib.Seq.{set-getD}
 use Rattle.wire.proofs.Lists.{split}
 use Rattle.machine.specs.State.{Task, unused, used, slotAt, withKind}
-use Rattle.table.specs.Table.{window, taskIn, held, slotsIn}
+use Rattle.table.specs.Table.{tableWords, window, taskIn, held, slotsIn}
 use Rattle.table.specs.Change.{taskOr, taskAt, slotWithKind}
 use Rattle.table.specs.Words.{SlotStored}
 use Rattle.table.proofs.Window.{window-length}
@@ -24,7 +24,7 @@ module _ (t : List ℕ) (s x : ℕ) where
       let none : slotAt (slotsIn t) s ≡ unused = slot-any (λ y. taskOr y .kind ≡ 0 → y ≡ unused) (λ _. refl) (λ w some z. absurd (some z)) t s e in
       rw none (rw none at (set-getD (slotsIn t) s unused))
 
-  module _ (u : List ℕ) (full : length t ≡ 3328) (small : x < 256) (p : SlotStored s (λ w. set w 0 x) t u) where
+  module _ (u : List ℕ) (full : length t ≡ tableWords) (small : x < 256) (p : SlotStored s (λ w. set w 0 x) t u) where
     stored : s < 16 → taskIn (set (window t s) 0 x) ≡ withKind x (taskIn (window t s))
     stored l = kind-stored x (window t s) (window-length t s full l) small
 

@@ -11,7 +11,7 @@ use lib.Seq.{getD-set-same, getD-set-other}
 use Rattle.wire.proofs.Tabulate.{take-tabulate, tabulate-without}
 use Rattle.machine.specs.State.{withMailbox}
 use Rattle.wire.specs.Inner.{without}
-use Rattle.table.specs.Table.{window, messageIn, messagesIn, taskIn}
+use Rattle.table.specs.Table.{tableWords, window, messageIn, messagesIn, taskIn}
 use Rattle.table.specs.Words.{SlotStored, shifted}
 use Rattle.table.proofs.Window.{word-at, stored-set, stored-then}
 use Rattle.table.proofs.Task.{count-stored, fields-kept}
@@ -59,7 +59,7 @@ shifted-inside (suc n) a w j l h long =
 -- ---- within a slot
 
 module _ (s : ℕ) (h : s < 16) where
-  pub stored-shifted : (n a : ℕ) (t : List ℕ) → length t ≡ 3328 → a + n < 208 → SlotStored s (shifted a n) t (shifted (s * 208 + a) n t)
+  pub stored-shifted : (n a : ℕ) (t : List ℕ) → length t ≡ tableWords → a + n < 208 → SlotStored s (shifted a n) t (shifted (s * 208 + a) n t)
   unfolding shifted
   stored-shifted zero a t full fits = record { here = λ _. refl; other = λ j ne. refl }
   stored-shifted (suc n) a t full fits =

@@ -13,7 +13,7 @@ use Rattle.wire.specs.Lists.{tabulate}
 use Rattle.wire.proofs.Lists.{split, map-alike}
 use Rattle.wire.proofs.Tabulate.{length-tabulate, getD-tabulate, tabulate-same, tabulate-set}
 use Rattle.machine.specs.State.{Task, Slot, unused, used, slotAt}
-use Rattle.table.specs.Table.{window, messageIn, messagesIn, taskIn, held, slotsIn}
+use Rattle.table.specs.Table.{tableWords, window, messageIn, messagesIn, taskIn, held, slotsIn}
 use Rattle.table.specs.Change.{noMessage, noTask, taskOr, taskAt, messageAt, changeSlot, change}
 use Rattle.table.specs.Words.{fieldWord, SlotStored}
 use Rattle.table.proofs.Change.{length-slots}
@@ -27,7 +27,7 @@ pub slot-in : (t : List ℕ) (s : ℕ) → s < 16 → slotAt (slotsIn t) s ≡ h
 unfolding slotsIn
 slot-in t s h = getD-tabulate 16 (λ j. held (taskIn (window t j))) s unused h
 
-slot-at : (t : List ℕ) (s : ℕ) → length t ≡ 3328 → slotAt (slotsIn t) s ≡ held (taskIn (window t s))
+slot-at : (t : List ℕ) (s : ℕ) → length t ≡ tableWords → slotAt (slotsIn t) s ≡ held (taskIn (window t s))
 unfolding taskIn
 slot-at t s full =
     dite (decLt s 16) (slot-in t s) (λ l. let past : 16 ≤ s = omega arith in rw (window-past t s full past) (slot-past t s past))
@@ -59,7 +59,7 @@ module _ {s : ℕ} {f : List ℕ → List ℕ} {t u : List ℕ} (p : SlotStored 
       tabulate-same 16 old new (λ j h. same j (λ e. omega arith)) ∙ sym (set-out (tabulate 16 old) s x (rw length-tabulate (omega arith))))
 
   -- a change of the task that leaves its kind
-  pub slots-change : length t ≡ 3328 → (g : Task → Task) → ((k : Task) → g k .kind ≡ k .kind)
+  pub slots-change : length t ≡ tableWords → (g : Task → Task) → ((k : Task) → g k .kind ≡ k .kind)
       → (length (window t s) ≡ 208 → taskIn (f (window t s)) ≡ g (taskIn (window t s))) → slotsIn u ≡ change s g (slotsIn t)
   slots-change full g same e =
       slots-set (changeSlot g (slotAt (slotsIn t) s))
@@ -95,7 +95,7 @@ unfolding taskIn
 registers-short =
     slot-any (λ x. length (taskOr x .registers) ≤ 8) (omega arith) (λ w _. rw length-tabulate (omega arith))
 
-module _ (t : List ℕ) (s : ℕ) (full : length t ≡ 3328) where
+module _ (t : List ℕ) (s : ℕ) (full : length t ≡ tableWords) where
   pub used-task : (k : Task) → slotAt (slotsIn t) s ≡ used k → k ≡ taskIn (window t s)
   used-task k e = sym (held-used (taskIn (window t s)) k (sym (slot-at t s full) ∙ e))
 

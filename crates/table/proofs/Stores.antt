@@ -8,7 +8,7 @@ use Rattle.wire.specs.Inner.{without}
 use Rattle.wire.proofs.Lists.{take-length-take, take-append}
 use Rattle.wire.proofs.Tabulate.{length-tabulate}
 use Rattle.machine.specs.State.{Message, Task, used, slotAt, withMailbox}
-use Rattle.table.specs.Table.{window, messageIn, messagesIn, taskIn, slotsIn}
+use Rattle.table.specs.Table.{tableWords, window, messageIn, messagesIn, taskIn, slotsIn}
 use Rattle.table.specs.Change.{taskAt, change, withMessage, withoutMessage}
 use Rattle.table.specs.Words.{SlotStored, storeMessage, shifted}
 use Rattle.table.proofs.Window.{stored-then}
@@ -23,12 +23,12 @@ unfolding messagesIn
 length-messages w = length-tabulate 64 (messageIn w)
 
 -- the mailbox of the task in a slot is the first of its messages
-mailbox-of : (t : List ℕ) (s : ℕ) → length t ≡ 3328 → (k : Task) → slotAt (slotsIn t) s ≡ used k
+mailbox-of : (t : List ℕ) (s : ℕ) → length t ≡ tableWords → (k : Task) → slotAt (slotsIn t) s ≡ used k
     → k .mailbox ≡ take (getD (window t s) 12 0) (messagesIn (window t s))
 unfolding taskIn
 mailbox-of t s full k e = ap (λ (x : Task). x .mailbox) (used-task t s full k e)
 
-module _ (t u : List ℕ) (s : ℕ) (full : length t ≡ 3328) where
+module _ (t u : List ℕ) (s : ℕ) (full : length t ≡ tableWords) where
   abbrev w : List ℕ
   w = window t s
 
@@ -61,14 +61,14 @@ module _ (t u : List ℕ) (s : ℕ) (full : length t ≡ 3328) where
         (take-append (getD w 12 0) i 64 (messagesIn w) m (length-messages w) (n ∙ ap length b) small ∙ rw b))
 
 -- the stores of a removal, n messages behind message i
-pub remove-stores : (t t₁ t₂ t₃ u : List ℕ) (s i n at : ℕ) → s < 16 → i + n < 64 → at ≡ s * 208 + i → length t₃ ≡ 3328
+pub remove-stores : (t t₁ t₂ t₃ u : List ℕ) (s i n at : ℕ) → s < 16 → i + n < 64 → at ≡ s * 208 + i → length t₃ ≡ tableWords
     → t₁ ≡ shifted (at + 16) n t → t₂ ≡ shifted (at + 80) n t₁ → t₃ ≡ shifted (at + 144) n t₂ → SlotStored s (λ w. set w 12 (i + n)) t₃ u
     → suc (i + n) ≡ length (taskAt (slotsIn t) s .mailbox) → slotsIn u ≡ change s (withoutMessage i) (slotsIn t)
 remove-stores t t₁ t₂ t₃ u s i n at h fits e long₃ e₁ e₂ e₃ p count =
-    let long₂ : length t₂ ≡ 3328 = sym (length-shifted n (at + 144) t₂) ∙ ap length (sym e₃) ∙ long₃ in
-    let long₁ : length t₁ ≡ 3328 = sym (length-shifted n (at + 80) t₁) ∙ ap length (sym e₂) ∙ long₂ in
-    let long : length t ≡ 3328 = sym (length-shifted n (at + 16) t) ∙ ap length (sym e₁) ∙ long₁ in
-    let column : (a : ℕ) (v v′ : List ℕ) → length v ≡ 3328 → a + i + n < 208 → v′ ≡ shifted (at + a) n v → SlotStored s (shifted (a + i) n) v v′
+    let long₂ : length t₂ ≡ tableWords = sym (length-shifted n (at + 144) t₂) ∙ ap length (sym e₃) ∙ long₃ in
+    let long₁ : length t₁ ≡ tableWords = sym (length-shifted n (at + 80) t₁) ∙ ap length (sym e₂) ∙ long₂ in
+    let long : length t ≡ tableWords = sym (length-shifted n (at + 16) t) ∙ ap length (sym e₁) ∙ long₁ in
+    let column : (a : ℕ) (v v′ : List ℕ) → length v ≡ tableWords → a + i + n < 208 → v′ ≡ shifted (at + a) n v → SlotStored s (shifted (a + i) n) v v′
     = λ a v v′ l f q. let k : at + a ≡ s * 208 + (a + i) = omega arith in rw (q, k) (stored-shifted s h n (a + i) v l (omega arith)) in
     let labels = column 16 t t₁ long (omega arith) e₁ in
     let senders = column 80 t₁ t₂ long₁ (omega arith) e₂ in

@@ -8,10 +8,10 @@ use native.Mathlib.Decide.{decLt}
 use native.Mathlib.Omega.{arith}
 use lib.ListN.{length, getD, take, drop, set, length-append, length-replicate, length-take, length-drop, drop-of-length-le, List·getD-eq-default}
 use lib.Seq.{getD-take, getD-drop, take-nil, drop-set-add, drop-set-lt, take-set-le, take-set-lt, set-out}
-use Rattle.table.specs.Table.{window}
+use Rattle.table.specs.Table.{tableWords, window}
 use Rattle.table.specs.Words.{SlotStored, cleared}
 
-module _ (t : List ℕ) (s : ℕ) (full : length t ≡ 3328) where
+module _ (t : List ℕ) (s : ℕ) (full : length t ≡ tableWords) where
   pub window-length : s < 16 → length (window t s) ≡ 208
   unfolding window
   window-length h = simp (length-take, length-drop) (omega arith)
@@ -43,7 +43,7 @@ window-other t s i x j h ne =
     let e : s * 208 + i ≡ j * 208 + k = omega arith in
     rw (e, drop-set-add) (take-set-le 208 (drop (j * 208) t) k x (omega arith)))
 
-pub stored-set : (t u : List ℕ) (s i x : ℕ) → length t ≡ 3328 → i < 208 → u ≡ set t (min s 16 * 208 + i) x → SlotStored s (λ w. set w i x) t u
+pub stored-set : (t u : List ℕ) (s i x : ℕ) → length t ≡ tableWords → i < 208 → u ≡ set t (min s 16 * 208 + i) x → SlotStored s (λ w. set w i x) t u
 stored-set t u s i x full h stored =
     dite (decLt s 16)
     (λ l.
@@ -60,7 +60,7 @@ stored-then {s} {f} {g} p q = record { here = λ h. q .here h ∙ ap g (p .here 
 pub cleared-none : (t : List ℕ) (s : ℕ) → SlotStored s (cleared 0) t t
 cleared-none t s = record { here = λ _. refl; other = λ j ne. refl }
 
-pub cleared-more : {s i : ℕ} {t u v : List ℕ} → i < 208 → length u ≡ 3328 → SlotStored s (cleared i) t u → SlotStored s (λ w. set w i 0) u v
+pub cleared-more : {s i : ℕ} {t u v : List ℕ} → i < 208 → length u ≡ tableWords → SlotStored s (cleared i) t u → SlotStored s (λ w. set w i 0) u v
     → SlotStored s (cleared (i + 1)) t v
 cleared-more {s} {i} {t} {u} h full p q =
     let r = stored-then p q in

@@ -39,6 +39,9 @@ valuesWord = 144
 abbrev pub slotWords : ℕ
 slotWords = 208
 
+abbrev pub tableWords : ℕ
+tableWords = 16 * slotWords
+
 -- how many messages a column has room for
 abbrev pub mailboxRoom : ℕ
 mailboxRoom = 64

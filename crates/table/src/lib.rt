@@ -9,13 +9,18 @@ ghost use Rattle.wire.specs.Inner.{firstIndex};
 ghost use Rattle.label.specs.Label.{flows};
 ghost use Rattle.machine.specs.State.{unused, slotAt, register, withLabel, withSpare, withPc, withRegister};
 ghost use Rattle.machine.specs.Turn.{ofLabel};
-ghost use Rattle.table.specs.Table.{window, slotsIn, held};
+ghost use Rattle.table.specs.Table.{tableWords, window, slotsIn, held};
 ghost use Rattle.table.specs.Words.{fieldWord, SlotStored, storeMessage, shifted, cleared};
 ghost use Rattle.table.specs.Change.{taskAt, messageAt, change, slotWithKind, withMessage, withoutMessage, newTask};
 
 const SLOTS: usize = 16;
 
 const SLOT_WORDS: usize = 208;
+
+// The words of the whole table.
+pub const WORDS: usize = SLOTS * SLOT_WORDS;
+
+pub type Table = [u32; WORDS];
 
 const MAILBOX_ROOM: usize = 64;
 
@@ -76,25 +81,25 @@ fn start(s: usize) -> usize
 }
 
 // Word i of slot s.
-fn word(t: &[u32; 3328], s: usize, i: usize) -> u32
+fn word(t: &Table, s: usize, i: usize) -> u32
     requires { ⌜ i < 208 ⌝ }
-    ensures { λ r. ⌜ (length (now (t .entry)) ≡ 3328) × (r ≡ getD (window (now (t .entry)) s) i 0) ⌝ }
+    ensures { λ r. ⌜ (length (now (t .entry)) ≡ tableWords) × (r ≡ getD (window (now (t .entry)) s) i 0) ⌝ }
 {
     fetch(t, start(s) + i)
 }
 
 // Word i of slot s gets x.
-fn put(t: &mut [u32; 3328], s: usize, i: usize, x: u32)
+fn put(t: &mut Table, s: usize, i: usize, x: u32)
     requires { ⌜ i < 208 ⌝ }
-    ensures { λ _. ⌜ (length (now (t .entry)) ≡ 3328) × SlotStored s (λ w. set w i x) (now (t .entry)) (now (t .exit)) ⌝ }
+    ensures { λ _. ⌜ (length (now (t .entry)) ≡ tableWords) × SlotStored s (λ w. set w i x) (now (t .entry)) (now (t .exit)) ⌝ }
 {
     store(t, start(s) + i, x);
 }
 
 // Word i of slot s, 0 where slot s is unused: a slot is used where its kind is not 0.
-fn field(t: &[u32; 3328], s: usize, i: usize) -> u32
+fn field(t: &Table, s: usize, i: usize) -> u32
     requires { ⌜ i < 208 ⌝ }
-    ensures { λ r. ⌜ (length (now (t .entry)) ≡ 3328) × (r ≡ fieldWord (window (now (t .entry)) s) i) ⌝ }
+    ensures { λ r. ⌜ (length (now (t .entry)) ≡ tableWords) × (r ≡ fieldWord (window (now (t .entry)) s) i) ⌝ }
 {
     if word(t, s, KIND) % 256 == 0 {
         0
@@ -106,42 +111,42 @@ fn field(t: &[u32; 3328], s: usize, i: usize) -> u32
 // ---- reading
 
 // The kind of the task in slot s, 0 where slot s is unused.
-pub fn kind(t: &[u32; 3328], s: usize) -> u8
+pub fn kind(t: &Table, s: usize) -> u8
     ensures { λ r. ⌜ r ≡ taskAt (slotsIn (now (t .entry))) s .kind ⌝ }
 {
     (field(t, s, KIND) % 256) as u8
 }
 
 // The label of the task in slot s.
-pub fn label(t: &[u32; 3328], s: usize) -> u8
+pub fn label(t: &Table, s: usize) -> u8
     ensures { λ r. ⌜ r ≡ taskAt (slotsIn (now (t .entry))) s .label ⌝ }
 {
     (field(t, s, LABEL) % 256) as u8
 }
 
 // The spare slots that the task in slot s has a right to.
-pub fn spare(t: &[u32; 3328], s: usize) -> u8
+pub fn spare(t: &Table, s: usize) -> u8
     ensures { λ r. ⌜ r ≡ taskAt (slotsIn (now (t .entry))) s .spare ⌝ }
 {
     (field(t, s, SPARE) % 256) as u8
 }
 
 // The index of the next instruction of the task in slot s.
-pub fn pc(t: &[u32; 3328], s: usize) -> u32
+pub fn pc(t: &Table, s: usize) -> u32
     ensures { λ r. ⌜ r ≡ taskAt (slotsIn (now (t .entry))) s .pc ⌝ }
 {
     field(t, s, PC)
 }
 
 // Register a of the task in slot s; there is none above 7.
-pub fn register(t: &[u32; 3328], s: usize, a: usize) -> u32
+pub fn register(t: &Table, s: usize, a: usize) -> u32
     ensures { λ r. ⌜ r ≡ register (taskAt (slotsIn (now (t .entry))) s) a ⌝ }
 {
     if a < 8 { field(t, s, REGISTERS + a) } else { 0 }
 }
 
 // How many messages are in the mailbox of the task in slot s.
-pub fn mailbox_length(t: &[u32; 3328], s: usize) -> usize
+pub fn mailbox_length(t: &Table, s: usize) -> usize
     ensures { λ r. ⌜ (r ≡ length (taskAt (slotsIn (now (t .entry))) s .mailbox)) × (r ≤ 64) ⌝ }
 {
     let n = field(t, s, COUNT) as usize;
@@ -149,7 +154,7 @@ pub fn mailbox_length(t: &[u32; 3328], s: usize) -> usize
 }
 
 // The label of message i in slot s, the oldest first.
-pub fn message_label(t: &[u32; 3328], s: usize, i: usize) -> u8
+pub fn message_label(t: &Table, s: usize, i: usize) -> u8
     ensures { λ r. ⌜ r ≡ messageAt (slotsIn (now (t .entry))) s i .label ⌝ }
 {
     if i < mailbox_length(t, s) {
@@ -160,7 +165,7 @@ pub fn message_label(t: &[u32; 3328], s: usize, i: usize) -> u8
 }
 
 // The slot that sent message i in slot s.
-pub fn message_sender(t: &[u32; 3328], s: usize, i: usize) -> u8
+pub fn message_sender(t: &Table, s: usize, i: usize) -> u8
     ensures { λ r. ⌜ r ≡ messageAt (slotsIn (now (t .entry))) s i .sender ⌝ }
 {
     if i < mailbox_length(t, s) {
@@ -171,7 +176,7 @@ pub fn message_sender(t: &[u32; 3328], s: usize, i: usize) -> u8
 }
 
 // The value of message i in slot s.
-pub fn message_value(t: &[u32; 3328], s: usize, i: usize) -> u32
+pub fn message_value(t: &Table, s: usize, i: usize) -> u32
     ensures { λ r. ⌜ r ≡ messageAt (slotsIn (now (t .entry))) s i .value ⌝ }
 {
     if i < mailbox_length(t, s) {
@@ -182,7 +187,7 @@ pub fn message_value(t: &[u32; 3328], s: usize, i: usize) -> u32
 }
 
 // The words of the labels of the messages in slot s, the oldest first.
-fn labels(t: &[u32; 3328], s: usize) -> &[u32]
+fn labels(t: &Table, s: usize) -> &[u32]
     ensures { λ r. ⌜ map (λ x. x % 256) (now r) ≡ map (λ m. m .label) (taskAt (slotsIn (now (t .entry))) s .mailbox) ⌝ }
 {
     let n = mailbox_length(t, s);
@@ -194,7 +199,7 @@ fn labels(t: &[u32; 3328], s: usize) -> &[u32]
 }
 
 // The index of the oldest message in slot s whose label flows to `label`; how many messages there are where there is none.
-pub fn oldest(t: &[u32; 3328], s: usize, label: u8) -> usize
+pub fn oldest(t: &Table, s: usize, label: u8) -> usize
     ensures { λ r. ⌜ r ≡ firstIndex (λ m. flows (m .label) label) (taskAt (slotsIn (now (t .entry))) s .mailbox) ⌝ }
 {
     let words = labels(t, s);
@@ -216,7 +221,7 @@ fn is_label(word: u32, label: u8) -> bool
 }
 
 // How many messages of a label are in the mailbox of the task in slot s.
-pub fn count_label(t: &[u32; 3328], s: usize, label: u8) -> usize
+pub fn count_label(t: &Table, s: usize, label: u8) -> usize
     ensures { λ r. ⌜ r ≡ length (ofLabel label (taskAt (slotsIn (now (t .entry))) s .mailbox)) ⌝ }
 {
     let words = labels(t, s);
@@ -232,7 +237,7 @@ pub fn count_label(t: &[u32; 3328], s: usize, label: u8) -> usize
 // ---- changing a field
 
 // The task in slot s gets kind x; kind 0 takes it away.
-pub fn set_kind(t: &mut [u32; 3328], s: usize, x: u8)
+pub fn set_kind(t: &mut Table, s: usize, x: u8)
     ensures { λ _. ⌜ slotsIn (now (t .exit)) ≡ set (slotsIn (now (t .entry))) s (slotWithKind x (slotAt (slotsIn (now (t .entry))) s)) ⌝ }
 {
     if kind(t, s) > 0 {
@@ -241,28 +246,28 @@ pub fn set_kind(t: &mut [u32; 3328], s: usize, x: u8)
 }
 
 // The task in slot s gets label x.
-pub fn set_label(t: &mut [u32; 3328], s: usize, x: u8)
+pub fn set_label(t: &mut Table, s: usize, x: u8)
     ensures { λ _. ⌜ slotsIn (now (t .exit)) ≡ change s (withLabel x) (slotsIn (now (t .entry))) ⌝ }
 {
     put(t, s, LABEL, x as u32);
 }
 
 // The task in slot s gets a right to x spare slots.
-pub fn set_spare(t: &mut [u32; 3328], s: usize, x: u8)
+pub fn set_spare(t: &mut Table, s: usize, x: u8)
     ensures { λ _. ⌜ slotsIn (now (t .exit)) ≡ change s (withSpare x) (slotsIn (now (t .entry))) ⌝ }
 {
     put(t, s, SPARE, x as u32);
 }
 
 // The next instruction of the task in slot s is that at index x.
-pub fn set_pc(t: &mut [u32; 3328], s: usize, x: u32)
+pub fn set_pc(t: &mut Table, s: usize, x: u32)
     ensures { λ _. ⌜ slotsIn (now (t .exit)) ≡ change s (withPc x) (slotsIn (now (t .entry))) ⌝ }
 {
     put(t, s, PC, x);
 }
 
 // Register a of the task in slot s gets x; there is none above 7.
-pub fn set_register(t: &mut [u32; 3328], s: usize, a: usize, x: u32)
+pub fn set_register(t: &mut Table, s: usize, a: usize, x: u32)
     ensures { λ _. ⌜ slotsIn (now (t .exit)) ≡ change s (withRegister a x) (slotsIn (now (t .entry))) ⌝ }
 {
     if a < 8 {
@@ -273,9 +278,9 @@ pub fn set_register(t: &mut [u32; 3328], s: usize, a: usize, x: u32)
 // ---- changing the mailbox
 
 // Message i of slot s is written, also where the mailbox ends before it.
-fn store_message(t: &mut [u32; 3328], s: usize, i: usize, label: u8, sender: u8, value: u32)
+fn store_message(t: &mut Table, s: usize, i: usize, label: u8, sender: u8, value: u32)
     requires { ⌜ i < 64 ⌝ }
-    ensures { λ _. ⌜ (length (now (t .entry)) ≡ 3328) × SlotStored s (storeMessage i (record { label = label; sender = sender; value = value })) (now (t .entry)) (now (t .exit)) ⌝ }
+    ensures { λ _. ⌜ (length (now (t .entry)) ≡ tableWords) × SlotStored s (storeMessage i (record { label = label; sender = sender; value = value })) (now (t .entry)) (now (t .exit)) ⌝ }
 {
     put(t, s, LABELS + i, label as u32);
     put(t, s, SENDERS + i, sender as u32);
@@ -283,7 +288,7 @@ fn store_message(t: &mut [u32; 3328], s: usize, i: usize, label: u8, sender: u8,
 }
 
 // The message joins the end of the mailbox; one of 64 messages has no room for it and stays as it was.
-pub fn append(t: &mut [u32; 3328], s: usize, label: u8, sender: u8, value: u32)
+pub fn append(t: &mut Table, s: usize, label: u8, sender: u8, value: u32)
     ensures { λ _. ⌜ slotsIn (now (t .exit)) ≡ change s (withMessage (record { label = label; sender = sender; value = value })) (slotsIn (now (t .entry))) ⌝ }
 {
     let n = mailbox_length(t, s);
@@ -294,8 +299,8 @@ pub fn append(t: &mut [u32; 3328], s: usize, label: u8, sender: u8, value: u32)
 }
 
 // Each of the n words from index at on is replaced by the one behind it.
-fn shift_down(t: &mut [u32; 3328], at: usize, n: usize)
-    requires { ⌜ at + n < 3328 ⌝ }
+fn shift_down(t: &mut Table, at: usize, n: usize)
+    requires { ⌜ at + n < tableWords ⌝ }
     ensures { λ _. ⌜ now (t .exit) ≡ shifted at n (now (t .entry)) ⌝ }
 {
     let end = at + n;
@@ -308,7 +313,7 @@ fn shift_down(t: &mut [u32; 3328], at: usize, n: usize)
 }
 
 // Message i goes, and those behind it move down by one: column by column, so that nothing is tested for each message.
-pub fn remove(t: &mut [u32; 3328], s: usize, i: usize)
+pub fn remove(t: &mut Table, s: usize, i: usize)
     ensures { λ _. ⌜ slotsIn (now (t .exit)) ≡ change s (withoutMessage i) (slotsIn (now (t .entry))) ⌝ }
 {
     let n = mailbox_length(t, s);
@@ -325,14 +330,14 @@ pub fn remove(t: &mut [u32; 3328], s: usize, i: usize)
 // ---- changing a slot
 
 // Slot s becomes unused. Its other words stay, and nothing reads them.
-pub fn clear(t: &mut [u32; 3328], s: usize)
+pub fn clear(t: &mut Table, s: usize)
     ensures { λ _. ⌜ slotsIn (now (t .exit)) ≡ set (slotsIn (now (t .entry))) s unused ⌝ }
 {
     put(t, s, KIND, 0);
 }
 
 // Every word of slot s ahead of its messages becomes 0.
-fn clear_fields(t: &mut [u32; 3328], s: usize)
+fn clear_fields(t: &mut Table, s: usize)
     ensures { λ _. ⌜ SlotStored s (cleared 16) (now (t .entry)) (now (t .exit)) ⌝ }
 {
     let mut i = 0;
@@ -343,7 +348,7 @@ fn clear_fields(t: &mut [u32; 3328], s: usize)
 }
 
 // Slot s holds a new task in place of what it held, with registers 0 and no messages; kind 0 leaves it unused.
-pub fn put_task(t: &mut [u32; 3328], s: usize, kind: u8, label: u8, spare: u8, pc: u32)
+pub fn put_task(t: &mut Table, s: usize, kind: u8, label: u8, spare: u8, pc: u32)
     ensures { λ _. ⌜ slotsIn (now (t .exit)) ≡ set (slotsIn (now (t .entry))) s (held (newTask kind label spare pc)) ⌝ }
 {
     clear_fields(t, s);

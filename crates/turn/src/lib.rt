@@ -20,7 +20,7 @@ use instruction::Instruction;
 // ---- registers and place
 
 // The place goes up by 1.
-fn advance(table: &mut [u32; 3328], slot: u8)
+fn advance(table: &mut table::Table, slot: u8)
     requires { ⌜ taskAt (slotsIn (now table)) slot .pc < 256 ⌝ }
     ensures { λ _. ⌜ slotsIn (now (table .exit)) ≡ change slot next (slotsIn (now (table .entry))) ⌝ }
 {
@@ -29,7 +29,7 @@ fn advance(table: &mut [u32; 3328], slot: u8)
 }
 
 // The place goes up, and register a gets x.
-fn gets(table: &mut [u32; 3328], slot: u8, a: u8, x: u32)
+fn gets(table: &mut table::Table, slot: u8, a: u8, x: u32)
     requires { ⌜ taskAt (slotsIn (now table)) slot .pc < 256 ⌝ }
     ensures { λ _. ⌜ slotsIn (now (table .exit)) ≡ change slot (λ t. next (withRegister a x t)) (slotsIn (now (table .entry))) ⌝ }
 {
@@ -38,7 +38,7 @@ fn gets(table: &mut [u32; 3328], slot: u8, a: u8, x: u32)
 }
 
 // Register a gets register b.
-fn copy(table: &mut [u32; 3328], slot: u8, a: u8, b: u8)
+fn copy(table: &mut table::Table, slot: u8, a: u8, b: u8)
     requires { ⌜ Ready slot (slotsIn (now table)) ⌝ }
     ensures { λ _. ⌜ slotsIn (now (table .exit)) ≡ executed (Copy a b) slot (slotsIn (now (table .entry))) ⌝ }
 {
@@ -47,7 +47,7 @@ fn copy(table: &mut [u32; 3328], slot: u8, a: u8, b: u8)
 }
 
 // Register a gets the sum of registers b and c, wrapped to 32 bits.
-fn add(table: &mut [u32; 3328], slot: u8, a: u8, b: u8, c: u8)
+fn add(table: &mut table::Table, slot: u8, a: u8, b: u8, c: u8)
     requires { ⌜ Ready slot (slotsIn (now table)) ⌝ }
     ensures { λ _. ⌜ slotsIn (now (table .exit)) ≡ executed (Add a b c) slot (slotsIn (now (table .entry))) ⌝ }
 {
@@ -57,7 +57,7 @@ fn add(table: &mut [u32; 3328], slot: u8, a: u8, b: u8, c: u8)
 }
 
 // Register a gets register b less register c, wrapped to 32 bits.
-fn subtract(table: &mut [u32; 3328], slot: u8, a: u8, b: u8, c: u8)
+fn subtract(table: &mut table::Table, slot: u8, a: u8, b: u8, c: u8)
     requires { ⌜ Ready slot (slotsIn (now table)) ⌝ }
     ensures { λ _. ⌜ slotsIn (now (table .exit)) ≡ executed (Subtract a b c) slot (slotsIn (now (table .entry))) ⌝ }
 {
@@ -67,7 +67,7 @@ fn subtract(table: &mut [u32; 3328], slot: u8, a: u8, b: u8, c: u8)
 }
 
 // The place becomes b if register a is 0.
-fn zero(table: &mut [u32; 3328], slot: u8, a: u8, b: u8)
+fn zero(table: &mut table::Table, slot: u8, a: u8, b: u8)
     requires { ⌜ Ready slot (slotsIn (now table)) ⌝ }
     ensures { λ _. ⌜ slotsIn (now (table .exit)) ≡ executed (Zero a b) slot (slotsIn (now (table .entry))) ⌝ }
 {
@@ -79,7 +79,7 @@ fn zero(table: &mut [u32; 3328], slot: u8, a: u8, b: u8)
 }
 
 // The task's own label is joined with a.
-fn raise(table: &mut [u32; 3328], slot: u8, a: u8)
+fn raise(table: &mut table::Table, slot: u8, a: u8)
     requires { ⌜ Ready slot (slotsIn (now table)) ⌝ }
     ensures { λ _. ⌜ slotsIn (now (table .exit)) ≡ executed (Raise a) slot (slotsIn (now (table .entry))) ⌝ }
 {
@@ -89,7 +89,7 @@ fn raise(table: &mut [u32; 3328], slot: u8, a: u8)
 }
 
 // Register a gets the task's own label, then register b its own slot.
-fn identity(table: &mut [u32; 3328], slot: u8, a: u8, b: u8)
+fn identity(table: &mut table::Table, slot: u8, a: u8, b: u8)
     requires { ⌜ Ready slot (slotsIn (now table)) ⌝ }
     ensures { λ _. ⌜ slotsIn (now (table .exit)) ≡ executed (Identity a b) slot (slotsIn (now (table .entry))) ⌝ }
 {
@@ -101,7 +101,7 @@ fn identity(table: &mut [u32; 3328], slot: u8, a: u8, b: u8)
 // ---- messages
 
 // The message joins the mailbox of a live task that has fewer than four of its label; in all other cases it is dropped.
-fn deliver(table: &mut [u32; 3328], to: u32, label: u8, sender: u8, value: u32)
+fn deliver(table: &mut table::Table, to: u32, label: u8, sender: u8, value: u32)
     requires { ⌜ RoomFor label (taskAt (slotsIn (now table)) to .mailbox) ⌝ }
     ensures { λ _. ⌜ slotsIn (now (table .exit))
         ≡ perform (deliver to (record { label = label; sender = sender; value = value })) (slotsIn (now (table .entry))) ⌝ }
@@ -115,7 +115,7 @@ fn deliver(table: &mut [u32; 3328], to: u32, label: u8, sender: u8, value: u32)
 
 // Sends register c under label b to the slot numbered in register a. Where the task's label does not flow to b it gets kind 4,
 // and nothing is sent.
-fn send(table: &mut [u32; 3328], slot: u8, a: u8, b: u8, c: u8)
+fn send(table: &mut table::Table, slot: u8, a: u8, b: u8, c: u8)
     requires { ⌜ Ready slot (slotsIn (now table)) × (b ≤ 15) ⌝ }
     ensures { λ _. ⌜ slotsIn (now (table .exit)) ≡ executed (Send a b c) slot (slotsIn (now (table .entry))) ⌝ }
 {
@@ -130,7 +130,7 @@ fn send(table: &mut [u32; 3328], slot: u8, a: u8, b: u8, c: u8)
 }
 
 // Message i goes: its value into register a, then its sender into register b.
-fn take_message(table: &mut [u32; 3328], slot: u8, i: usize, a: u8, b: u8)
+fn take_message(table: &mut table::Table, slot: u8, i: usize, a: u8, b: u8)
     requires { ⌜ taskAt (slotsIn (now table)) slot .pc < 256 ⌝ }
     ensures { λ _. ⌜ slotsIn (now (table .exit))
         ≡ change slot (λ t. next (withRegister b (messageAt (slotsIn (now (table .entry))) slot i .sender)
@@ -144,7 +144,7 @@ fn take_message(table: &mut [u32; 3328], slot: u8, i: usize, a: u8, b: u8)
 }
 
 // Takes the oldest receivable message: whether there was one.
-fn take(table: &mut [u32; 3328], slot: u8, a: u8, b: u8) -> bool
+fn take(table: &mut table::Table, slot: u8, a: u8, b: u8) -> bool
     requires { ⌜ Ready slot (slotsIn (now table)) ⌝ }
     ensures { λ r. ⌜ (slotsIn (now (table .exit)) ≡ executed (Take a b) slot (slotsIn (now (table .entry))))
         × (r ≡ isGiven (oldest flows (taskAt (slotsIn (now (table .entry))) slot))) ⌝ }
@@ -160,7 +160,7 @@ fn take(table: &mut [u32; 3328], slot: u8, a: u8, b: u8) -> bool
 }
 
 // As take; with nothing receivable the place becomes c.
-fn poll(table: &mut [u32; 3328], slot: u8, a: u8, b: u8, c: u8)
+fn poll(table: &mut table::Table, slot: u8, a: u8, b: u8, c: u8)
     requires { ⌜ Ready slot (slotsIn (now table)) ⌝ }
     ensures { λ _. ⌜ slotsIn (now (table .exit)) ≡ executed (Poll a b c) slot (slotsIn (now (table .entry))) ⌝ }
 {
@@ -173,7 +173,7 @@ fn poll(table: &mut [u32; 3328], slot: u8, a: u8, b: u8, c: u8)
 // ---- new tasks
 
 // The new task of a sandbox in slot `child`, with the parent's label, and the parent's slot in register 0.
-fn spawn(table: &mut [u32; 3328], child: usize, parent: u8, label: u8, pc: u8, size: u8)
+fn spawn(table: &mut table::Table, child: usize, parent: u8, label: u8, pc: u8, size: u8)
     requires { ⌜ 1 ≤ size ⌝ }
     ensures { λ _. ⌜ slotsIn (now (table .exit)) ≡ set (slotsIn (now (table .entry))) child (used (childOf parent label pc size)) ⌝ }
 {
@@ -182,7 +182,7 @@ fn spawn(table: &mut [u32; 3328], child: usize, parent: u8, label: u8, pc: u8, s
 }
 
 // A new task at place b with the last c of the task's spare slots, its slot into register a; too few spare slots stop the task.
-fn sandbox(table: &mut [u32; 3328], slot: u8, a: u8, b: u8, c: u8)
+fn sandbox(table: &mut table::Table, slot: u8, a: u8, b: u8, c: u8)
     requires { ⌜ Ready slot (slotsIn (now table)) × (1 ≤ c) ⌝ }
     ensures { λ _. ⌜ slotsIn (now (table .exit)) ≡ executed (Sandbox a b c) slot (slotsIn (now (table .entry))) ⌝ }
 {
@@ -202,7 +202,7 @@ fn sandbox(table: &mut [u32; 3328], slot: u8, a: u8, b: u8, c: u8)
 // ---- turns
 
 // Carries an instruction out.
-fn execute(table: &mut [u32; 3328], slot: u8, i: Instruction)
+fn execute(table: &mut table::Table, slot: u8, i: Instruction)
     requires { ⌜ Ready slot (slotsIn (now table)) × WasDecoded i ⌝ }
     ensures { λ _. ⌜ slotsIn (now (table .exit)) ≡ executed i slot (slotsIn (now (table .entry))) ⌝ }
 {
@@ -226,7 +226,7 @@ fn execute(table: &mut [u32; 3328], slot: u8, i: Instruction)
 }
 
 // What a live task does with its turn: with place N it gets kind 3, else it carries out one instruction.
-fn act(table: &mut [u32; 3328], program: &[u8], slot: u8)
+fn act(table: &mut table::Table, program: &[u8], slot: u8)
     requires { ⌜ Valid (stateIn (now program) slot (now table)) × (hasLiveTask (slotAt (slotsIn (now table)) slot) ≡ true) ⌝ }
     ensures { λ _. ⌜ slotsIn (now (table .exit))
         ≡ applied slot (outcome flows join (now (program .entry)) slot (taskAt (slotsIn (now (table .entry))) slot)) (slotsIn (now (table .entry))) ⌝ }
@@ -244,7 +244,7 @@ fn act(table: &mut [u32; 3328], program: &[u8], slot: u8)
 }
 
 // The turn of a slot: whether it met a live task.
-fn turn(table: &mut [u32; 3328], program: &[u8], slot: u8) -> bool
+fn turn(table: &mut table::Table, program: &[u8], slot: u8) -> bool
     requires { ⌜ Valid (stateIn (now program) slot (now table)) ⌝ }
     ensures { λ r. ⌜ (slotsIn (now (table .exit)) ≡ turns 1 (stateIn (now (program .entry)) slot (now (table .entry))) .slots)
         × (r ≡ hasLiveTask (slotAt (slotsIn (now (table .entry))) slot)) ⌝ }
@@ -270,7 +270,7 @@ fn round_end(slot: u8, left: u64) -> u8
 }
 
 // The turns of the slots from `first` up to `end`, each followed by the next: how many met a live task.
-fn round(table: &mut [u32; 3328], program: &[u8], first: u8, end: u8) -> u64
+fn round(table: &mut table::Table, program: &[u8], first: u8, end: u8) -> u64
     requires { ⌜ Valid (stateIn (now program) first (now table)) × (first ≤ end) × (end ≤ 16) ⌝ }
     ensures { λ r. ⌜ (r ≡ busy (end - first) (stateIn (now (program .entry)) first (now (table .entry))))
         × (stateIn (now (program .entry)) (end % 16) (now (table .exit))
@@ -300,7 +300,7 @@ pub struct RunAnswer {
 }
 
 // n turns of the tasks in the table, the first that of slot `first`.
-pub fn turns(table: &mut [u32; 3328], program: &[u8], first: u8, n: u64) -> RunAnswer
+pub fn turns(table: &mut table::Table, program: &[u8], first: u8, n: u64) -> RunAnswer
     requires { ⌜ Valid (stateIn (now program) first (now table)) ⌝ }
     ensures { λ r. ⌜ (r ≡ runTold n (stateIn (now (program .entry)) first (now (table .entry))))
         × (slotsIn (now (table .exit)) ≡ turns n (stateIn (now (program .entry)) first (now (table .entry))) .slots) ⌝ }

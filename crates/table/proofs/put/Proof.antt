@@ -4,6 +4,7 @@ use mathlib.Core.Path.{_≡_}
 use native.Mathlib.Omega.{arith}
 use denote.Ref.{now}
 use lib.ListN.{length}
+use Rattle.table.specs.Table.{tableWords}
 use Rattle.table.proofs.Window.{stored-set}
 use Rattle.table.proofs.put.Statement.{statement}
 use Rattle.table.proofs.put.Tie as tie
@@ -11,7 +12,7 @@ use Rattle.table.proofs.put.Tie as tie
 returns : tie.Need-returns
 returns c =
     let a = c .before .before .before .args in
-    let full : length (now (a .t)) ≡ 3328 = omega arith in
+    let full : length (now (a .t)) ≡ tableWords = omega arith in
     (full, stored-set (now (a .t)) (c .store .last .0) (a .s) (a .i) (a .x) full (omega arith) (rw (c .before .start .ensures) at (c .store .ensures)))
 
 pub put-spec : {M : Type 1} → statement M

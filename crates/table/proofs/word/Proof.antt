@@ -4,6 +4,7 @@ use mathlib.Core.Path.{_≡_, _∙_}
 use native.Mathlib.Omega.{arith}
 use denote.Ref.{now}
 use lib.ListN.{length}
+use Rattle.table.specs.Table.{tableWords}
 use Rattle.table.proofs.Window.{word-at}
 use Rattle.table.proofs.word.Statement.{statement}
 use Rattle.table.proofs.word.Tie as tie
@@ -11,7 +12,7 @@ use Rattle.table.proofs.word.Tie as tie
 returns : tie.Need-returns
 returns c =
     let a = c .before .before .before .args in
-    let full : length (now (a .t)) ≡ 3328 = omega arith in
+    let full : length (now (a .t)) ≡ tableWords = omega arith in
     (full, c .fetch .ensures ∙ rw (c .before .start .ensures) (word-at (now (a .t)) (a .s) full (a .i) (omega arith)))
 
 pub word-spec : {M : Type 1} → statement M
