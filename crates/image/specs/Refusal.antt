@@ -101,6 +101,6 @@ imageNumber b =
     then tailNumber b
     then spareNumber b
 
--- 13 output: output shorter than the answer
-abbrev pub outputNumber : List ℕ → List ℕ → ℕ
-outputNumber answer out = unless (leb (length answer) (length out)) 13
+-- a call's number, given that of its argument, 0 where it has none; 13 output: output shorter than the answer
+abbrev pub firstMet : ℕ → List ℕ → List ℕ → List ℕ → ℕ
+firstMet argument image answer out = argument then imageNumber image then unless (leb (length answer) (length out)) 13

@@ -33,3 +33,10 @@ longestImage = 7796
 -- the most turns of one call
 abbrev pub turnLimit : ℕ
 turnLimit = 1000000
+
+-- bytes that are enough for every sheet, and the most that the reading program takes
+abbrev pub sheetRoom : ℕ
+sheetRoom = 318
+
+abbrev pub inputRoom : ℕ
+inputRoom = 8192

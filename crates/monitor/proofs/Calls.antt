@@ -13,12 +13,13 @@ use Rattle.wire.specs.Output.{overwrite}
 use Rattle.wire.specs.Inner.{written}
 use Rattle.wire.proofs.Lists.{split}
 use Rattle.wire.proofs.Output.{take-overwrite, drop-overwrite, length-overwrite, length-written}
-use Rattle.image.specs.Refusal.{_then_, unless, imageNumber}
+use Rattle.image.specs.Refusal.{observerNumber, _then_, unless, imageNumber}
 use Rattle.image.proofs.Refusal.{then-stop, then-left, then-right, then-holds, unless-holds, unless-none, unless-given, Listed, listed-not}
 use Rattle.image.proofs.Image.{image-listed}
 use Rattle.monitor.specs.declared.Answer.{Answer}
-use Rattle.monitor.specs.Calls.{Call, callNumber, refusal, outputAnswer, callAnswer, callOutput}
-use Rattle.monitor.specs.Claims.{Accepted, Exactly, NumbersByCause, WritesItsAnswer}
+use Rattle.monitor.specs.Calls.{Call, callNumber, refusal, callAnswer, callOutput, CallPromise}
+use Rattle.monitor.specs.Inner.{outputAnswer}
+use Rattle.monitor.specs.Claims.{Accepted, Exactly, NumbersByCause, WritesItsAnswer, TellTheSame}
 
 -- ---- what is told once b was written where the output has room: r, its length, is compared with the output's
 
@@ -53,57 +54,57 @@ then-output zero (suc i) t argument listed e = absurd (omega arith)
 then-output (suc a) i t argument listed e = absurd (omega arith)
 
 -- an observer has number 0 or 1
-pub observer-low : (v : ℕ) → unless (leb v 15) 1 ≤ 2
+pub observer-low : (v : ℕ) → observerNumber v ≤ 2
 observer-low v = unless-holds (λ x. x ≤ 2) (leb v 15) 1 (omega arith) (omega arith)
 
 -- ---- a call by its number
 
-module _ (c : Call) (image out : List ℕ) where
+module _ (c : Call) (out : List ℕ) where
   -- what the call tells as its number
-  pub answer-number : callAnswer c image out .number ≡ callNumber c image out
+  pub answer-number : callAnswer c out .number ≡ callNumber c out
   unfolding callAnswer
-  answer-number = split (eqb (callNumber c image out) 0) (λ e. rw e (sym (eqb-true (callNumber c image out) 0 e))) (λ e. rw e)
+  answer-number = split (eqb (callNumber c out) 0) (λ e. rw e (sym (eqb-true (callNumber c out) 0 e))) (λ e. rw e)
 
   -- the output has room for the bytes
   abbrev fits : Bool
   fits = leb (length (c .bytes)) (length out)
 
   -- the parts of the number, in their order
-  first-met : callAnswer c image out .number ≡ (c .argumentNumber then imageNumber image then unless fits 13)
+  first-met : callAnswer c out .number ≡ (c .argumentNumber then imageNumber (c .image) then unless fits 13)
   unfolding callNumber
   first-met = answer-number
 
   -- an accepted call
-  pub accepted-exactly : Exactly (callAnswer c image out .number ≡ 0) ((c .argumentNumber ≡ 0) × (imageNumber image ≡ 0) × (length (c .bytes) ≤ length out))
+  pub accepted-exactly : Exactly (callAnswer c out .number ≡ 0) ((c .argumentNumber ≡ 0) × (imageNumber (c .image) ≡ 0) × (length (c .bytes) ≤ length out))
   accepted-exactly = (
     λ e.
         let i = then-right (c .argumentNumber) _ (sym first-met ∙ e) in
-        let o = then-right (imageNumber image) _ i in (
+        let o = then-right (imageNumber (c .image)) _ i in (
           then-left (c .argumentNumber) _ (sym first-met ∙ e),
-          then-left (imageNumber image) _ i,
+          then-left (imageNumber (c .image)) _ i,
           leb-true _ _ (unless-none fits 12 o),
         ),
     λ h. first-met ∙ rw (h .0, h .1, le-leb (length (c .bytes)) (length out) (h .2)),
   )
 
   -- 1 and 2 come from the argument
-  argument-exactly : (k : ℕ) → 1 ≤ k → k ≤ 2 → Exactly (callAnswer c image out .number ≡ k) (c .argumentNumber ≡ k)
+  argument-exactly : (k : ℕ) → 1 ≤ k → k ≤ 2 → Exactly (callAnswer c out .number ≡ k) (c .argumentNumber ≡ k)
   argument-exactly k low high = (
-    λ e. then-argument (c .argumentNumber) (imageNumber image) fits k (image-listed image) low high (sym first-met ∙ e),
+    λ e. then-argument (c .argumentNumber) (imageNumber (c .image)) fits k (image-listed (c .image)) low high (sym first-met ∙ e),
     λ e. first-met ∙ rw e (then-stop k (λ z. omega arith) _),
   )
 
-  pub numbers-by-cause : c .argumentNumber ≤ 2 → NumbersByCause c image out
+  pub numbers-by-cause : c .argumentNumber ≤ 2 → NumbersByCause c out
   numbers-by-cause argument = record {
     accepted = accepted-exactly;
     fromArgument = argument-exactly;
     fromImage = λ k low high. (
-      λ e. then-image (c .argumentNumber) (imageNumber image) fits k argument low high (sym first-met ∙ e),
+      λ e. then-image (c .argumentNumber) (imageNumber (c .image)) fits k argument low high (sym first-met ∙ e),
       λ h. first-met ∙ rw (h .0, h .1) (then-stop k (λ z. omega arith) _),
     );
     fromOutput = (
       λ e.
-          let o = then-output (c .argumentNumber) (imageNumber image) fits argument (image-listed image .most) (sym first-met ∙ e) in
+          let o = then-output (c .argumentNumber) (imageNumber (c .image)) fits argument (image-listed (c .image) .most) (sym first-met ∙ e) in
           (o .0, o .1, leb-false _ _ (o .2)),
       λ h. first-met ∙ rw (h .0, h .1, lt-leb (length (c .bytes)) (length out) (h .2)),
     );
@@ -111,37 +112,37 @@ module _ (c : Call) (image out : List ℕ) where
 
   -- the argument x has the number k where it is beyond its limit
   pub limit-exactly : (x limit k : ℕ) → c .argumentNumber ≡ unless (leb x limit) k → 1 ≤ k → k ≤ 2
-      → Exactly (callAnswer c image out .number ≡ k) (limit < x)
+      → Exactly (callAnswer c out .number ≡ k) (limit < x)
   limit-exactly x limit k e low high = (
     λ told. leb-false x limit (unless-given (leb x limit) k low (sym e ∙ argument-exactly k low high .0 told)),
     λ beyond. argument-exactly k low high .1 (e ∙ rw (lt-leb x limit beyond)),
   )
 
   -- the bytes that the call writes, none where it is refused
-  call-written : take (callAnswer c image out .length) (callOutput c image out) ≡ cond (eqb (callNumber c image out) 0) (c .bytes) []
+  call-written : take (callAnswer c out .length) (callOutput c out) ≡ cond (eqb (callNumber c out) 0) (c .bytes) []
   unfolding callAnswer callOutput
-  call-written = split (eqb (callNumber c image out) 0) (λ e. rw e (take-overwrite (c .bytes) out)) (λ e. rw e)
+  call-written = split (eqb (callNumber c out) 0) (λ e. rw e (take-overwrite (c .bytes) out)) (λ e. rw e)
 
   -- the output of an accepted call
-  pub output-accepted : callAnswer c image out .number ≡ 0 → callOutput c image out ≡ overwrite (c .bytes) out
+  pub output-accepted : callAnswer c out .number ≡ 0 → callOutput c out ≡ overwrite (c .bytes) out
   unfolding callOutput
   output-accepted e = rw (sym answer-number ∙ e)
 
   -- of bytes, number 0 tells an accepted image
-  pub number-0-accepted : {number : ℕ} → number ≡ callAnswer c image out .number → Bytes image → number ≡ 0 → Accepted image
+  pub number-0-accepted : {number : ℕ} → number ≡ callAnswer c out .number → Bytes (c .image) → number ≡ 0 → Accepted (c .image)
   number-0-accepted told bytes none = record { bytes = bytes; number = accepted-exactly .0 (sym told ∙ none) .1 }
 
   -- a call that runs no turn tells busy count 0
-  pub busy-0 : c .busy ≡ 0 → callAnswer c image out .busy ≡ 0
+  pub busy-0 : c .busy ≡ 0 → callAnswer c out .busy ≡ 0
   unfolding callAnswer
-  busy-0 e = split (eqb (callNumber c image out) 0) (λ t. rw t e) (λ t. rw t)
+  busy-0 e = split (eqb (callNumber c out) 0) (λ t. rw t e) (λ t. rw t)
 
   -- it writes the bytes of its answer and nothing else
-  pub writes-its-answer : WritesItsAnswer c (callAnswer c image out) out (callOutput c image out)
+  pub writes-its-answer : WritesItsAnswer c (callAnswer c out) out (callOutput c out)
   unfolding callAnswer callOutput
   writes-its-answer =
-      split (eqb (callNumber c image out) 0)
-      (λ e. let room = accepted-exactly .0 (answer-number ∙ eqb-true (callNumber c image out) 0 e) .2 in
+      split (eqb (callNumber c out) 0)
+      (λ e. let room = accepted-exactly .0 (answer-number ∙ eqb-true (callNumber c out) 0 e) .2 in
       rw e
       record {
         refused = λ n. absurd (n refl);
@@ -153,23 +154,23 @@ module _ (c : Call) (image out : List ℕ) where
       (λ e. rw e
       record {
         refused = λ _. (refl, refl, refl);
-        accepted = λ z. absurd (eqb-false (callNumber c image out) 0 e z);
+        accepted = λ z. absurd (eqb-false (callNumber c out) 0 e z);
         behind = refl;
         fits = omega arith;
         size = refl;
       })
 
   -- what holds of the argument's number, the image's, 0 and 13 holds of the number told
-  pub number-holds : (P : ℕ → Type 0) → P (c .argumentNumber) → P (imageNumber image) → P 0 → P 13 → P (callAnswer c image out .number)
+  pub number-holds : (P : ℕ → Type 0) → P (c .argumentNumber) → P (imageNumber (c .image)) → P 0 → P 13 → P (callAnswer c out .number)
   unfolding callNumber
   number-holds P a i z o =
       rw answer-number
-      (then-holds P (c .argumentNumber) _ a (then-holds P (imageNumber image) _ i (unless-holds P (leb (length (c .bytes)) (length out)) 13 z o)))
+      (then-holds P (c .argumentNumber) _ a (then-holds P (imageNumber (c .image)) _ i (unless-holds P (leb (length (c .bytes)) (length out)) 13 z o)))
 
   -- of a call for an observer: 0, or a number of the table other than 2
-  pub observer-listed : (v : ℕ) → c .argumentNumber ≡ unless (leb v 15) 1 → (callAnswer c image out .number ≤ 13) × (callAnswer c image out .number ≢ 2)
+  pub observer-listed : (v : ℕ) → c .argumentNumber ≡ observerNumber v → (callAnswer c out .number ≤ 13) × (callAnswer c out .number ≢ 2)
   observer-listed v e =
-      let i = image-listed image in
+      let i = image-listed (c .image) in
       number-holds (λ x. (x ≤ 13) × (x ≢ 2))
       (rw e (unless-holds (λ x. (x ≤ 13) × (x ≢ 2)) (leb v 15) 1 (omega arith, λ z. omega arith) (omega arith, λ z. omega arith)))
       (omega (arith, i .most), listed-not _ 2 i (omega arith) (omega arith)) (omega arith, λ z. omega arith) (omega arith, λ z. omega arith)
@@ -177,40 +178,45 @@ module _ (c : Call) (image out : List ℕ) where
   -- ---- a call whose argument is beyond its limit
 
   pub call-beyond : (n : ℕ) → c .argumentNumber ≡ suc n → {r : Answer} → r ≡ refusal (suc n)
-      → (r ≡ callAnswer c image out) × (out ≡ callOutput c image out)
+      → CallPromise c out r out
   unfolding callAnswer callOutput callNumber
   call-beyond n beyond told =
       let some : suc n ≢ 0 = λ e. omega arith in
-      rw (told, beyond, then-stop (suc n) some (imageNumber image then unless (leb (length (c .bytes)) (length out)) 13), ne-eqb (suc n) 0 some) (refl, refl)
+      rw (told, beyond, then-stop (suc n) some (imageNumber (c .image) then unless (leb (length (c .bytes)) (length out)) 13), ne-eqb (suc n) 0 some) (refl, refl)
 
   -- ---- a call whose argument is within its limit
 
   module _ (argument : c .argumentNumber ≡ 0) where
     -- its image is refused
-    pub call-refused : {r : Answer} {k : ℕ} → k ≡ imageNumber image → k ≢ 0 → r ≡ refusal k
-        → (r ≡ callAnswer c image out) × (out ≡ callOutput c image out)
+    pub call-refused : {r : Answer} {k : ℕ} → k ≡ imageNumber (c .image) → k ≢ 0 → r ≡ refusal k
+        → CallPromise c out r out
     unfolding callAnswer callOutput callNumber
     call-refused {k = k} number refused told =
         rw (told, argument, ← number, then-stop k refused (unless (leb (length (c .bytes)) (length out)) 13), ne-eqb k 0 refused) (refl, refl)
 
     -- its image is accepted, and its bytes are written where the output has room for them
-    pub call-accepted : imageNumber image ≡ 0 → {b after : List ℕ} {k : ℕ} {r : Answer} → b ≡ c .bytes → k ≡ c .busy
+    pub call-accepted : imageNumber (c .image) ≡ 0 → {b after : List ℕ} {k : ℕ} {r : Answer} → b ≡ c .bytes → k ≡ c .busy
         → (r ≡ outputAnswer b k out) × (after ≡ written b out)
-        → (r ≡ callAnswer c image out) × (after ≡ callOutput c image out)
+        → CallPromise c out r after
     unfolding callAnswer callOutput callNumber
     call-accepted accepted {b} same counted w =
         rw (argument, accepted, ← same, ← counted, w .0, w .1) (split (leb (length b) (length out)) (λ e. rw e (refl, refl)) (λ e. rw e (refl, refl)))
 
--- ---- the same call of two images that get the same number, with outputs of equal length
+-- ---- two calls with the same argument's number, bytes and busy count, of images that get the same number
 
-module _ (c c′ : Call) (image image′ out out′ : List ℕ) (same : c ≡ c′) (number : imageNumber image ≡ imageNumber image′) (room : length out ≡ length out′) where
-  number-same : callNumber c image out ≡ callNumber c′ image′ out′
-  unfolding callNumber
-  number-same = rw (same, number, room)
+module _ (c c′ : Call) (argument : c .argumentNumber ≡ c′ .argumentNumber) (number : imageNumber (c .image) ≡ imageNumber (c′ .image))
+    (bytes : c .bytes ≡ c′ .bytes) (busy : c .busy ≡ c′ .busy) where
+  module _ (out out′ : List ℕ) (room : length out ≡ length out′) where
+    number-same : callNumber c out ≡ callNumber c′ out′
+    unfolding callNumber
+    number-same = rw (argument, number, bytes, room)
 
-  pub answer-same : callAnswer c image out ≡ callAnswer c′ image′ out′
-  unfolding callAnswer
-  answer-same = rw (number-same, same)
+    answer-same : callAnswer c out ≡ callAnswer c′ out′
+    unfolding callAnswer
+    answer-same = rw (number-same, bytes, busy)
 
-  pub written-same : take (callAnswer c image out .length) (callOutput c image out) ≡ take (callAnswer c′ image′ out′ .length) (callOutput c′ image′ out′)
-  written-same = call-written c image out ∙ rw (number-same, same) (sym (call-written c′ image′ out′))
+    written-same : take (callAnswer c out .length) (callOutput c out) ≡ take (callAnswer c′ out′ .length) (callOutput c′ out′)
+    written-same = call-written c out ∙ rw (number-same, bytes) (sym (call-written c′ out′))
+
+  pub tell-the-same : TellTheSame c c′
+  tell-the-same out out′ told told′ after after′ room p p′ = rw (p .0, p .1, p′ .0, p′ .1) (answer-same out out′ room, written-same out out′ room)

@@ -29,26 +29,27 @@ numbers-are-listed image out =
     let i = image-listed image in
     let not-1 = listed-not _ 1 i (omega arith) (omega arith) in
     let not-2 = listed-not _ 2 i (omega arith) (omega arith) in (
-      number-holds (rewriteCall image) image out (λ x. (x ≤ 13) × (x ≢ 1) × (x ≢ 2))
+      (i .most, not-1, not-2),
+      number-holds (rewriteCall image) out (λ x. (x ≤ 13) × (x ≢ 1) × (x ≢ 2))
           (omega arith, λ e. omega arith, λ e. omega arith) (omega (arith, i .most), not-1, not-2)
           (omega arith, λ e. omega arith, λ e. omega arith) (omega arith, λ e. omega arith, λ e. omega arith),
-      λ n. number-holds (turnsCall n image) image out (λ x. (x ≤ 13) × (x ≢ 1))
+      λ n. number-holds (turnsCall n image) out (λ x. (x ≤ 13) × (x ≢ 1))
           (unless-holds (λ x. (x ≤ 13) × (x ≢ 1)) (leb n 1000000) 2 (omega arith, λ e. omega arith) (omega arith, λ e. omega arith))
           (omega (arith, i .most), not-1) (omega arith, λ e. omega arith) (omega arith, λ e. omega arith),
-      λ v. observer-listed (viewCall v image) image out v refl,
+      λ v. observer-listed (viewCall v image) out v refl,
     )
 
 pub limits-are-refused : LimitsAreRefused
 limits-are-refused image out = (
-  λ v. limit-exactly (viewCall v image) image out v 15 1 refl (omega arith) (omega arith),
-  λ n. limit-exactly (turnsCall n image) image out n 1000000 2 refl (omega arith) (omega arith),
+  λ v. limit-exactly (viewCall v image) out v 15 1 refl (omega arith) (omega arith),
+  λ n. limit-exactly (turnsCall n image) out n 1000000 2 refl (omega arith) (omega arith),
 )
 
 pub none-in-any-other-event : NoneInAnyOtherEvent
 none-in-any-other-event image out = (
-  numbers-by-cause (rewriteCall image) image out (omega arith),
-  λ n. numbers-by-cause (turnsCall n image) image out (unless-holds (λ x. x ≤ 2) (leb n 1000000) 2 (omega arith) (omega arith)),
-  λ v. numbers-by-cause (viewCall v image) image out (observer-low v),
+  numbers-by-cause (rewriteCall image) out (omega arith),
+  λ n. numbers-by-cause (turnsCall n image) out (unless-holds (λ x. x ≤ 2) (leb n 1000000) 2 (omega arith) (omega arith)),
+  λ v. numbers-by-cause (viewCall v image) out (observer-low v),
 )
 
 -- a valid state's image has at most 7,796 bytes
@@ -59,9 +60,9 @@ pub others-are-accepted : OthersAreAccepted
 others-are-accepted image out a h =
     let s = stateOf image in
     let ok = read-valid image a in (
-      accepted-exactly (rewriteCall image) image out .1 (refl, a .number, room s ok out h),
-      λ n l. accepted-exactly (turnsCall n image) image out .1 (rw (le-leb n 1000000 l), a .number, room (turns n s) (turns-valid n s ok) out h),
-      λ v l. accepted-exactly (viewCall v image) image out .1 (rw (le-leb v 15 l), a .number, room (view v s) (view-valid v s ok) out h),
+      accepted-exactly (rewriteCall image) out .1 (refl, a .number, room s ok out h),
+      λ n l. accepted-exactly (turnsCall n image) out .1 (rw (le-leb n 1000000 l), a .number, room (turns n s) (turns-valid n s ok) out h),
+      λ v l. accepted-exactly (viewCall v image) out .1 (rw (le-leb v 15 l), a .number, room (view v s) (view-valid v s ok) out h),
     )
 
 pub calls-write-their-answer : CallsWriteTheirAnswer
@@ -89,7 +90,7 @@ read-then-write image a =
     let same = rewritten image a in (
       read-valid image a,
       same,
-      λ out h. output-accepted c image out (accepted-exactly c image out .1 (refl, a .number, rw same h)) ∙ ap (λ (b : List ℕ). overwrite b out) same,
+      λ out h. output-accepted c out (accepted-exactly c out .1 (refl, a .number, rw same h)) ∙ ap (λ (b : List ℕ). overwrite b out) same,
     )
 
 pub write-then-read : WriteThenRead

@@ -15,7 +15,7 @@ use Rattle.image.specs.Refusal.{imageNumber}
 use Rattle.image.proofs.Image.{accepted-valid}
 use Rattle.table.specs.Table.{slotsIn, stateIn}
 use Rattle.snapshot.specs.Writing.{snapshotBytes}
-use Rattle.monitor.specs.Calls.{rewriteCall, rewriteAnswer, rewriteOutput, viewBytes, viewCall, viewAnswer, viewOutput}
+use Rattle.monitor.specs.Calls.{callAnswer, callOutput, rewriteCall, viewBytes, viewCall}
 use Rattle.monitor.proofs.Calls.{call-refused}
 
 -- ---- loaded
@@ -62,13 +62,14 @@ module _ (image : List ℕ) (bytes : Bytes image) where
       ∙ ap imageBytes (view-15 (turns n s) (turns-valid n s (accepted-valid image bytes accepted)))
 
   -- to write the image again is to write its view for 15
-  pub view-rewrites : (out : List ℕ) → (viewAnswer 15 image out ≡ rewriteAnswer image out) × (viewOutput 15 image out ≡ rewriteOutput image out)
+  pub view-rewrites : (out : List ℕ)
+      → (callAnswer (viewCall 15 image) out ≡ callAnswer (rewriteCall image) out) × (callOutput (viewCall 15 image) out ≡ callOutput (rewriteCall image) out)
   view-rewrites out =
       split (eqb (imageNumber image) 0)
       (λ e. let same : viewBytes 15 image ≡ imageBytes (stateOf image)
       = ap imageBytes (view-15 (stateOf image) (accepted-valid image bytes (eqb-true (imageNumber image) 0 e))) in
       rw same (refl, refl))
       (λ e. let refused = eqb-false (imageNumber image) 0 e in
-      let v = call-refused (viewCall 15 image) image out refl refl refused refl in
-      let w = call-refused (rewriteCall image) image out refl refl refused refl in
+      let v = call-refused (viewCall 15 image) out refl refl refused refl in
+      let w = call-refused (rewriteCall image) out refl refl refused refl in
       (sym (v .0) ∙ w .0, sym (v .1) ∙ w .1))

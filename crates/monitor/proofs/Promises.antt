@@ -5,7 +5,8 @@ use mathlib.Core.List.{List, [], _∷_}
 use denote.Ref.{now, ptr}
 use Rattle.wire.specs.Slices.{offsetBy}
 use Rattle.image.specs.Refusal.{imageNumber}
-use Rattle.monitor.specs.Calls.{recordAnswer, extentAnswer, refusal, rewriteAnswer, rewriteOutput, turnsAnswer, turnsOutput, TurnsPromise, ViewPromise}
+use Rattle.image.specs.Part.{recordPart, recordExtent}
+use Rattle.monitor.specs.Calls.{callAnswer, callOutput, refusal, CallPromise, rewriteCall, turnsCall, viewCall}
 use Rattle.monitor.specs.CallList.{TurnCall, imageAfter, KeptPromises}
 use Rattle.monitor.proofs.Keeps.{Keeps, imageOf, slotNumberOf, countOf, observerOf, outputOf, soleOutputOf, numberOf}
 use Rattle.monitor.proofs.check as Check
@@ -35,27 +36,26 @@ module _ {M : Type 1} where
   check-keeps = CheckMet.met
 
   pub record-keeps : Keeps M Record.ended RecordCode.routine
-      (λ κs a r e. (now r ≡ recordAnswer (now (imageOf a)) (slotNumberOf a))
-      × (ptr r ≡ offsetBy (extentAnswer (now (imageOf a)) (slotNumberOf a) .start) (ptr (imageOf a))))
+      (λ κs a r e. (now r ≡ recordPart (now (imageOf a)) (slotNumberOf a))
+      × (ptr r ≡ offsetBy (recordExtent (now (imageOf a)) (slotNumberOf a) .start) (ptr (imageOf a))))
   record-keeps = RecordMet.met
 
-  pub record-extent-keeps : Keeps M RecordExtent.ended RecordExtentCode.routine (λ κs a r e. r ≡ extentAnswer (now (imageOf a)) (slotNumberOf a))
+  pub record-extent-keeps : Keeps M RecordExtent.ended RecordExtentCode.routine (λ κs a r e. r ≡ recordExtent (now (imageOf a)) (slotNumberOf a))
   record-extent-keeps = RecordExtentMet.met
 
   pub refused-keeps : Keeps M Refused.ended RefusedCode.routine (λ κs a r e. r ≡ refusal (numberOf a))
   refused-keeps = RefusedMet.met
 
   pub rewrite-keeps : Keeps M Rewrite.ended RewriteCode.routine
-      (λ κs a r e. (r ≡ rewriteAnswer (now (imageOf a)) (now (soleOutputOf a)))
-      × (now (soleOutputOf e) ≡ rewriteOutput (now (imageOf a)) (now (soleOutputOf a))))
+      (λ κs a r e. CallPromise (rewriteCall (now (imageOf a))) (now (soleOutputOf a)) r (now (soleOutputOf e)))
   rewrite-keeps = RewriteMet.met
 
   pub turns-keeps : Keeps M Turns.ended TurnsCode.routine
-      (λ κs a r e. TurnsPromise (countOf a) (now (imageOf a)) (now (outputOf a)) r (now (outputOf e)))
+      (λ κs a r e. CallPromise (turnsCall (countOf a) (now (imageOf a))) (now (outputOf a)) r (now (outputOf e)))
   turns-keeps = TurnsMet.met
 
   pub view-keeps : Keeps M View.ended ViewCode.routine
-      (λ κs a r e. ViewPromise (observerOf a) (now (imageOf a)) (now (outputOf a)) r (now (outputOf e)))
+      (λ κs a r e. CallPromise (viewCall (observerOf a) (now (imageOf a))) (now (outputOf a)) r (now (outputOf e)))
   view-keeps = ViewMet.met
 
 -- ---- lists of calls that keep the promise: none, and one with any n and any output ahead of others
@@ -65,7 +65,7 @@ kept-none image = tt
 
 -- the call as the definitions say that it goes
 abbrev pub went : ℕ → List ℕ → List ℕ → TurnCall
-went n out image = record { n = n; out = out; told = turnsAnswer n image out; after = turnsOutput n image out }
+went n out image = record { n = n; out = out; told = callAnswer (turnsCall n image) out; after = callOutput (turnsCall n image) out }
 
 pub kept-next : (n : ℕ) (out image : List ℕ) (calls : List TurnCall) → KeptPromises calls (imageAfter (went n out image) image)
     → KeptPromises (went n out image ∷ calls) image

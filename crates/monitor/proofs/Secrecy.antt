@@ -13,13 +13,13 @@ use Rattle.machine.specs.Turn as Turn
 use Rattle.machine.specs.Valid.{Valid}
 use Rattle.machine.specs.Machine.{turns, view}
 use Rattle.machine.proofs.Machine.{turns-valid, view-valid, turns-add, turns-same}
-use Rattle.image.specs.Refusal.{unless}
+use Rattle.image.specs.Refusal.{observerNumber}
 use Rattle.image.specs.Image.{stateOf, imageBytes}
 use Rattle.image.proofs.Image.{accepted-valid, image-back, image-bytes, image-accepted, image-forth}
-use Rattle.monitor.specs.Calls.{turnsCall, turnsAnswer, TurnsPromise, viewBytes, viewCall, viewAnswer, viewOutput}
+use Rattle.monitor.specs.Calls.{callAnswer, callOutput, CallPromise, turnsCall, viewBytes, viewCall}
 use Rattle.monitor.specs.CallList.{TurnCall, isAccepted, imageAfter, finalImage, turnsCarriedOut, KeptPromises}
 use Rattle.monitor.specs.Claims.{Accepted, EqualViews}
-use Rattle.monitor.proofs.Calls.{accepted-exactly, writes-its-answer, answer-same, written-same}
+use Rattle.monitor.proofs.Calls.{accepted-exactly, writes-its-answer, tell-the-same}
 
 -- ---- accepted images and valid states
 
@@ -35,15 +35,15 @@ written-accepted s ok = record { bytes = image-bytes s ok; number = image-accept
 -- ---- equal views are equal bytes
 
 module _ (v : ℕ) (seen : v ≤ 15) where
-  observer-none : unless (leb v 15) 1 ≡ 0
+  observer-none : observerNumber v ≡ 0
   observer-none = rw (le-leb v 15 seen)
 
   -- the view call for v, given room, writes the view
   view-shown : (image : List ℕ) → Accepted image → (out : List ℕ) → length (viewBytes v image) ≤ length out
-      → take (viewAnswer v image out .length) (viewOutput v image out) ≡ viewBytes v image
+      → take (callAnswer (viewCall v image) out .length) (callOutput (viewCall v image) out) ≡ viewBytes v image
   view-shown image a out room =
       let c = viewCall v image in
-      writes-its-answer c image out .accepted (accepted-exactly c image out .1 (observer-none, a .number, room)) .2
+      writes-its-answer c out .accepted (accepted-exactly c out .1 (observer-none, a .number, room)) .2
 
   module _ (image image′ : List ℕ) where
     pub equal-bytes : EqualViews v image image′ → viewBytes v image ≡ viewBytes v image′
@@ -57,19 +57,11 @@ module _ (v : ℕ) (seen : v ≤ 15) where
         ∙ view-shown image′ (e .right) out (omega arith)
 
     module _ (a : Accepted image) (a′ : Accepted image′) (e : viewBytes v image ≡ viewBytes v image′) where
-      same : viewCall v image ≡ viewCall v image′
-      same = ap (λ (b : List ℕ). record { argumentNumber = unless (leb v 15) 1; bytes = b; busy = 0 }) e
-
       pub equal-views : EqualViews v image image′
       equal-views = record {
         left = a;
         right = a′;
-        shown = λ out out′ told told′ after after′ h p p′.
-            let number = a .number ∙ sym (a′ .number) in
-            let call = viewCall v image in
-            let call′ = viewCall v image′ in
-            rw (p .0, p .1, p′ .0, p′ .1)
-            (answer-same call call′ image image′ out out′ same number h, written-same call call′ image image′ out out′ same number h);
+        shown = tell-the-same (viewCall v image) (viewCall v image′) refl (a .number ∙ sym (a′ .number)) e refl;
       }
 
 -- ---- a list of calls comes to its sum of turns
@@ -78,14 +70,14 @@ module _ (v : ℕ) (seen : v ≤ 15) where
 abbrev turnsOf : TurnCall → ℕ
 turnsOf c = cond (isAccepted c) (c .n) 0
 
-module _ (c : TurnCall) (image : List ℕ) (a : Accepted image) (p : TurnsPromise (c .n) image (c .out) (c .told) (c .after)) where
+module _ (c : TurnCall) (image : List ℕ) (a : Accepted image) (p : CallPromise (turnsCall (c .n) image) (c .out) (c .told) (c .after)) where
   -- an accepted call leaves the image after its turns, and a refused one the image itself
   after-call : imageAfter c image ≡ imageBytes (turns (turnsOf c) (stateOf image))
   unfolding Turn.turnsBy
   after-call =
       split (isAccepted c)
-      (λ e. let number : turnsAnswer (c .n) image (c .out) .number ≡ 0 = rw (p .0) at (eqb-true (c .told .number) 0 e) in
-      rw (e, p .0, p .1) (writes-its-answer (turnsCall (c .n) image) image (c .out) .accepted number .2))
+      (λ e. let number : callAnswer (turnsCall (c .n) image) (c .out) .number ≡ 0 = rw (p .0) at (eqb-true (c .told .number) 0 e) in
+      rw (e, p .0, p .1) (writes-its-answer (turnsCall (c .n) image) (c .out) .accepted number .2))
       (λ e. rw e (sym (rewritten image a)))
 
   after-valid : Valid (turns (turnsOf c) (stateOf image))

@@ -5,7 +5,7 @@ use mathlib.Core.List.{List, [], _∷_}
 use lib.Dec.{eqb}
 use lib.ListN.{take}
 use Rattle.monitor.specs.declared.Answer.{Answer}
-use Rattle.monitor.specs.Calls.{TurnsPromise}
+use Rattle.monitor.specs.Calls.{CallPromise, turnsCall}
 
 -- a turn call as it went: its n and its output, what it told, and what its output held afterwards
 pub record TurnCall : Type 0 where
@@ -35,4 +35,4 @@ turnsCarriedOut (c ∷ cs) = cond (isAccepted c) (c .n) 0 + turnsCarriedOut cs
 -- all that is known of how the calls went: each kept the promise of `monitor::turns` for the image that it was given
 abbrev pub KeptPromises : List TurnCall → List ℕ → Type 0
 KeptPromises [] image = Unit {0}
-KeptPromises (c ∷ cs) image = TurnsPromise (c .n) image (c .out) (c .told) (c .after) × KeptPromises cs (imageAfter c image)
+KeptPromises (c ∷ cs) image = CallPromise (turnsCall (c .n) image) (c .out) (c .told) (c .after) × KeptPromises cs (imageAfter c image)

@@ -6,16 +6,16 @@ use mathlib.Core.List.{List, []}
 use lib.ListN.{length, take, drop}
 use Rattle.wire.specs.Lists.{Bytes}
 use Rattle.wire.specs.Output.{overwrite}
+use Rattle.machine.specs.Limits.{highestLabel, shortestImage, longestImage, turnLimit}
 use Rattle.machine.specs.State.{State, slotAt}
 use Rattle.machine.specs.Valid.{Valid}
 use Rattle.image.specs.Record.{recordBytes}
 use Rattle.image.specs.declared.Extent.{Extent}
 use Rattle.image.specs.Image.{stateOf, imageBytes}
-use Rattle.image.specs.Part.{recordStart}
 use Rattle.image.specs.Refusal.{imageNumber}
+use Rattle.image.specs.Part.{recordStart, recordPart, recordExtent}
 use Rattle.monitor.specs.declared.Answer.{Answer}
-use Rattle.monitor.specs.Calls.{recordAnswer, extentAnswer, Call, callAnswer, callOutput, rewriteCall, rewriteAnswer, rewriteOutput}
-use Rattle.monitor.specs.Calls.{turnsCall, turnsAnswer, viewBytes, viewCall, viewAnswer, ViewPromise}
+use Rattle.monitor.specs.Calls.{Call, callAnswer, callOutput, CallPromise, rewriteCall, turnsCall, viewBytes, viewCall}
 use Rattle.monitor.specs.CallList.{TurnCall, finalImage, turnsCarriedOut, KeptPromises}
 
 -- an accepted image: bytes whose number is 0
@@ -29,44 +29,46 @@ Exactly A B = (A → B) × (B → A)
 
 -- ---- demand 1: what a call tells and writes
 
--- "Numbers a caller may receive": 0 and those of the table, 1 and 2 "each only in the call that has that argument"
+-- "Numbers a caller may receive": 0 and those of the table, 1 and 2 "each only in the call that has that argument"; an image
+-- by itself has 0 or one of 3 to 12
 abbrev pub NumbersAreListed : Type 0
 NumbersAreListed =
     (image out : List ℕ)
-    → ((rewriteAnswer image out .number ≤ 13) × (rewriteAnswer image out .number ≢ 1) × (rewriteAnswer image out .number ≢ 2))
-    × ((n : ℕ) → (turnsAnswer n image out .number ≤ 13) × (turnsAnswer n image out .number ≢ 1))
-    × ((v : ℕ) → (viewAnswer v image out .number ≤ 13) × (viewAnswer v image out .number ≢ 2))
+    → ((imageNumber image ≤ 12) × (imageNumber image ≢ 1) × (imageNumber image ≢ 2))
+    × ((callAnswer (rewriteCall image) out .number ≤ 13) × (callAnswer (rewriteCall image) out .number ≢ 1) × (callAnswer (rewriteCall image) out .number ≢ 2))
+    × ((n : ℕ) → (callAnswer (turnsCall n image) out .number ≤ 13) × (callAnswer (turnsCall n image) out .number ≢ 1))
+    × ((v : ℕ) → (callAnswer (viewCall v image) out .number ≤ 13) × (callAnswer (viewCall v image) out .number ≢ 2))
 
 -- 1 "the label asked for is above 15", 2 "more than 1,000,000 turns": then, whatever the image and the output are, and at no
 -- other time
 abbrev pub LimitsAreRefused : Type 0
 LimitsAreRefused =
     (image out : List ℕ)
-    → ((v : ℕ) → Exactly (viewAnswer v image out .number ≡ 1) (15 < v))
-    × ((n : ℕ) → Exactly (turnsAnswer n image out .number ≡ 2) (1000000 < n))
+    → ((v : ℕ) → Exactly (callAnswer (viewCall v image) out .number ≡ 1) (highestLabel < v))
+    × ((n : ℕ) → Exactly (callAnswer (turnsCall n image) out .number ≡ 2) (turnLimit < n))
 
 -- "The first met is given; none of them in any other event": each number of a call by what gives it. 1 and 2 come from the
 -- argument alone; 3 to 12 from the image alone, where the argument has none; 13 from the output, where neither has one
-pub record NumbersByCause (c : Call) (image out : List ℕ) : Type 0 where
-  pub accepted : Exactly (callAnswer c image out .number ≡ 0) ((c .argumentNumber ≡ 0) × (imageNumber image ≡ 0) × (length (c .bytes) ≤ length out))
-  pub fromArgument : (k : ℕ) → 1 ≤ k → k ≤ 2 → Exactly (callAnswer c image out .number ≡ k) (c .argumentNumber ≡ k)
-  pub fromImage : (k : ℕ) → 3 ≤ k → k ≤ 12 → Exactly (callAnswer c image out .number ≡ k) ((c .argumentNumber ≡ 0) × (imageNumber image ≡ k))
-  pub fromOutput : Exactly (callAnswer c image out .number ≡ 13) ((c .argumentNumber ≡ 0) × (imageNumber image ≡ 0) × (length out < length (c .bytes)))
+pub record NumbersByCause (c : Call) (out : List ℕ) : Type 0 where
+  pub accepted : Exactly (callAnswer c out .number ≡ 0) ((c .argumentNumber ≡ 0) × (imageNumber (c .image) ≡ 0) × (length (c .bytes) ≤ length out))
+  pub fromArgument : (k : ℕ) → 1 ≤ k → k ≤ 2 → Exactly (callAnswer c out .number ≡ k) (c .argumentNumber ≡ k)
+  pub fromImage : (k : ℕ) → 3 ≤ k → k ≤ 12 → Exactly (callAnswer c out .number ≡ k) ((c .argumentNumber ≡ 0) × (imageNumber (c .image) ≡ k))
+  pub fromOutput : Exactly (callAnswer c out .number ≡ 13) ((c .argumentNumber ≡ 0) × (imageNumber (c .image) ≡ 0) × (length out < length (c .bytes)))
 
 abbrev pub NoneInAnyOtherEvent : Type 0
 NoneInAnyOtherEvent =
     (image out : List ℕ)
-    → NumbersByCause (rewriteCall image) image out
-    × ((n : ℕ) → NumbersByCause (turnsCall n image) image out)
-    × ((v : ℕ) → NumbersByCause (viewCall v image) image out)
+    → NumbersByCause (rewriteCall image) out
+    × ((n : ℕ) → NumbersByCause (turnsCall n image) out)
+    × ((v : ℕ) → NumbersByCause (viewCall v image) out)
 
--- "1,000,000 turns accepted"; an output of 7,796 bytes is long enough for every call
+-- "1,000,000 turns accepted"; an output as long as the longest image is long enough for every call
 abbrev pub OthersAreAccepted : Type 0
 OthersAreAccepted =
-    (image out : List ℕ) → Accepted image → 7796 ≤ length out
-    → (rewriteAnswer image out .number ≡ 0)
-    × ((n : ℕ) → n ≤ 1000000 → turnsAnswer n image out .number ≡ 0)
-    × ((v : ℕ) → v ≤ 15 → viewAnswer v image out .number ≡ 0)
+    (image out : List ℕ) → Accepted image → longestImage ≤ length out
+    → (callAnswer (rewriteCall image) out .number ≡ 0)
+    × ((n : ℕ) → n ≤ turnLimit → callAnswer (turnsCall n image) out .number ≡ 0)
+    × ((v : ℕ) → v ≤ highestLabel → callAnswer (viewCall v image) out .number ≡ 0)
 
 -- "A refused call writes no byte and tells its number, length 0 and busy count 0; an accepted one tells number 0. An
 -- accepted call writes only the bytes of its answer."
@@ -78,7 +80,7 @@ pub record WritesItsAnswer (c : Call) (a : Answer) (out after : List ℕ) : Type
   pub size : length after ≡ length out
 
 abbrev pub CallsWriteTheirAnswer : Type 0
-CallsWriteTheirAnswer = (c : Call) (image out : List ℕ) → WritesItsAnswer c (callAnswer c image out) out (callOutput c image out)
+CallsWriteTheirAnswer = (c : Call) (out : List ℕ) → WritesItsAnswer c (callAnswer c out) out (callOutput c out)
 
 -- "The reader hands back each record as the part of the caller's image that holds it. The part is the record's bytes
 -- without the 2-byte length. That part is empty for an unused slot, a slot number above 15 or a refused image."
@@ -94,13 +96,13 @@ pub record IsRecordPart (image : List ℕ) (slot : ℕ) (part : List ℕ) (exten
   pub start : part ≢ [] → extent .start ≡ recordStart image slot
 
 abbrev pub RecordIsItsPart : Type 0
-RecordIsItsPart = (image : List ℕ) (slot : ℕ) → IsRecordPart image slot (recordAnswer image slot) (extentAnswer image slot)
+RecordIsItsPart = (image : List ℕ) (slot : ℕ) → IsRecordPart image slot (recordPart image slot) (recordExtent image slot)
 
 -- ---- demand 2: images and tasks
 
 -- "The shortest image has 40 bytes, the longest 7,796."
 abbrev pub ImageLengths : Type 0
-ImageLengths = (image : List ℕ) → Accepted image → (40 ≤ length image) × (length image ≤ 7796)
+ImageLengths = (image : List ℕ) → Accepted image → (shortestImage ≤ length image) × (length image ≤ longestImage)
 
 -- demand 2: "Reading an accepted image and writing it again yields the same bytes,"
 abbrev pub ReadThenWrite : Type 0
@@ -108,7 +110,7 @@ ReadThenWrite =
     (image : List ℕ) → Accepted image
     → Valid (stateOf image)
     × (imageBytes (stateOf image) ≡ image)
-    × ((out : List ℕ) → length image ≤ length out → rewriteOutput image out ≡ overwrite image out)
+    × ((out : List ℕ) → length image ≤ length out → callOutput (rewriteCall image) out ≡ overwrite image out)
 
 -- demand 2: "and writing out tasks that keep the image rules and reading them yields the same tasks."
 abbrev pub WriteThenRead : Type 0
@@ -124,21 +126,25 @@ ViewFor15 = (image : List ℕ) → Accepted image → viewBytes 15 image ≡ ima
 
 -- ---- demand 3: the secrecy rule
 
--- both images "are accepted, and their views for v are equal: the view call for v, given outputs of equal length, tells
--- the same number and the same length for both and writes the same bytes."
+-- "given outputs of equal length, tells the same number and the same length for both and writes the same bytes": of two calls
+abbrev pub TellTheSame : Call → Call → Type 0
+TellTheSame c c′ =
+    (out out′ : List ℕ) (told told′ : Answer) (after after′ : List ℕ) → length out ≡ length out′
+    → CallPromise c out told after → CallPromise c′ out′ told′ after′
+    → (told ≡ told′) × (take (told .length) after ≡ take (told′ .length) after′)
+
+-- both images "are accepted, and their views for v are equal": the view call for v tells the same and writes the same
 pub record EqualViews (v : ℕ) (image image′ : List ℕ) : Type 0 where
   pub left : Accepted image
   pub right : Accepted image′
-  pub shown : (out out′ : List ℕ) (told told′ : Answer) (after after′ : List ℕ) → length out ≡ length out′
-      → ViewPromise v image out told after → ViewPromise v image′ out′ told′ after′
-      → (told ≡ told′) × (take (told .length) after ≡ take (told′ .length) after′)
+  pub shown : TellTheSame (viewCall v image) (viewCall v image′)
 
 -- "The two lists start from two accepted images whose views for v are the same bytes." Each holds any turn calls, with any
 -- n and any output, refused ones included. "It is a single claim about two whole lists, for every v". It is about the code:
 -- the calls are known by what they told and wrote, and of that only what the code promises (proofs/Promises.antt).
 abbrev pub Secrecy : Type 0
 Secrecy =
-    (v : ℕ) → v ≤ 15
+    (v : ℕ) → v ≤ highestLabel
     → (image image′ : List ℕ) → Accepted image → Accepted image′ → viewBytes v image ≡ viewBytes v image′
     → (calls calls′ : List TurnCall) → KeptPromises calls image → KeptPromises calls′ image′ → turnsCarriedOut calls ≡ turnsCarriedOut calls′
     → EqualViews v (finalImage calls image) (finalImage calls′ image′)
@@ -146,6 +152,6 @@ Secrecy =
 -- for accepted images, views that are the same bytes are equal views, and the other way round
 abbrev pub EqualViewsAreEqualBytes : Type 0
 EqualViewsAreEqualBytes =
-    (v : ℕ) → v ≤ 15
+    (v : ℕ) → v ≤ highestLabel
     → (image image′ : List ℕ) → Accepted image → Accepted image′
     → Exactly (EqualViews v image image′) (viewBytes v image ≡ viewBytes v image′)

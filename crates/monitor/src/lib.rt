@@ -2,12 +2,13 @@
 // them stands in specs/.
 ghost use mathlib.Core.Path.{_≡_};
 ghost use denote.Ref.{ptr};
-ghost use Rattle.wire.specs.Inner.{written};
 ghost use Rattle.wire.specs.Slices.{offsetBy};
+ghost use Rattle.wire.specs.Inner.{written};
 ghost use Rattle.image.specs.Refusal.{imageNumber};
+ghost use Rattle.image.specs.Part.{recordPart, recordExtent};
 ghost use Rattle.snapshot.specs.Writing.{snapshotBytes};
-ghost use Rattle.monitor.specs.Calls.{recordAnswer, extentAnswer, outputAnswer, refusal};
-ghost use Rattle.monitor.specs.Calls.{rewriteAnswer, rewriteOutput, turnsAnswer, turnsOutput, viewAnswer, viewOutput};
+ghost use Rattle.monitor.specs.Calls.{refusal, CallPromise, rewriteCall, turnsCall, viewCall};
+ghost use Rattle.monitor.specs.Inner.{outputAnswer};
 
 // What a call tells: 01's number, 0 where it is accepted; the length of what it wrote; the turns that met a live task.
 pub struct Answer {
@@ -26,15 +27,15 @@ pub fn check(image: &[u8]) -> u8
 // The record of a slot, as the part of the image that holds it: no bytes for an unused slot, a slot above 15 or a refused
 // image.
 pub fn record(image: &[u8], slot: u32) -> &[u8]
-    ensures { λ r. ⌜ (now r ≡ recordAnswer (now (image .entry)) slot)
-        × (ptr r ≡ offsetBy (extentAnswer (now (image .entry)) slot .start) (ptr (image .entry))) ⌝ }
+    ensures { λ r. ⌜ (now r ≡ recordPart (now (image .entry)) slot)
+        × (ptr r ≡ offsetBy (recordExtent (now (image .entry)) slot .start) (ptr (image .entry))) ⌝ }
 {
     image::record(image, slot as usize)
 }
 
 // Where that part stands in the image: start and length both 0 where it is empty.
 pub fn record_extent(image: &[u8], slot: u32) -> image::Extent
-    ensures { λ r. ⌜ r ≡ extentAnswer (now (image .entry)) slot ⌝ }
+    ensures { λ r. ⌜ r ≡ recordExtent (now (image .entry)) slot ⌝ }
 {
     image::record_extent(image, slot as usize)
 }
@@ -77,8 +78,7 @@ fn write_answer(
 
 // Writes the view of an image for an observer.
 pub fn view(image: &[u8], observer: u32, out: &mut [u8]) -> Answer
-    ensures { λ r. ⌜ (r ≡ viewAnswer observer (now (image .entry)) (now (out .entry)))
-        × (now (out .exit) ≡ viewOutput observer (now (image .entry)) (now (out .entry))) ⌝ }
+    ensures { λ r. ⌜ CallPromise (viewCall observer (now (image .entry))) (now (out .entry)) r (now (out .exit)) ⌝ }
 {
     if observer > 15 {
         return refused(1);
@@ -95,8 +95,7 @@ pub fn view(image: &[u8], observer: u32, out: &mut [u8]) -> Answer
 
 // Writes an image again as it was read: for label 15 the view is the image.
 pub fn rewrite(image: &[u8], out: &mut [u8]) -> Answer
-    ensures { λ r. ⌜ (r ≡ rewriteAnswer (now (image .entry)) (now (out .entry)))
-        × (now (out .exit) ≡ rewriteOutput (now (image .entry)) (now (out .entry))) ⌝ }
+    ensures { λ r. ⌜ CallPromise (rewriteCall (now (image .entry))) (now (out .entry)) r (now (out .exit)) ⌝ }
 {
     view(image, 15, out)
 }
@@ -106,8 +105,7 @@ const TURN_LIMIT: u64 = 1_000_000;
 
 // Writes the image after this many turns, and tells how many of them met a live task.
 pub fn turns(image: &[u8], count: u64, out: &mut [u8]) -> Answer
-    ensures { λ r. ⌜ (r ≡ turnsAnswer count (now (image .entry)) (now (out .entry)))
-        × (now (out .exit) ≡ turnsOutput count (now (image .entry)) (now (out .entry))) ⌝ }
+    ensures { λ r. ⌜ CallPromise (turnsCall count (now (image .entry))) (now (out .entry)) r (now (out .exit)) ⌝ }
 {
     if count > TURN_LIMIT {
         return refused(2);

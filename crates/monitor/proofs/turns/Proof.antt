@@ -48,7 +48,7 @@ turns-requires c κs = loaded-valid (image c) (bytes c) (accepted c) (same c)
 returns : tie.Need-returns
 returns c =
     let above = lt-leb (c .before .before .before .before .args .count) 1000000 (omega arith) in
-    call-beyond _ _ _ 1 (rw above) (c .refused .ensures)
+    call-beyond _ _ 1 (rw above) (c .refused .ensures)
 
 -- an accepted image
 returns-2 : tie.Need-returns-2
@@ -62,13 +62,13 @@ returns-2 c =
     ap (λ (x : RunAnswer). snapshotBytes (r .last .0) (image p) (x .turn) 15) told
     ∙ turns-written (image p) (bytes p) (r .last .0) n (accepted p) ran in
     let within = le-leb n 1000000 (omega arith) in
-    call-accepted _ _ _ (rw within) (accepted p) written (ap (λ (x : RunAnswer). x .busy) told) (c .before .before .write-answer .ensures)
+    call-accepted _ _ (rw within) (accepted p) written (ap (λ (x : RunAnswer). x .busy) told) (c .before .before .write-answer .ensures)
 
 -- a refused one
 returns-3 : tie.Need-returns-3
 returns-3 c =
     let within = le-leb (c .before .before .before .before .before .before .before .args .count) 1000000 (omega arith) in
-    call-refused _ _ _ (rw within) (c .before .before .load .ensures .0) (c .before .if2 .left) (c .refused2 .ensures)
+    call-refused _ _ (rw within) (c .before .before .load .ensures .0) (c .before .if2 .left) (c .refused2 .ensures)
 
 pub turns-spec : {M : Type 1} → statement M
 turns-spec =

@@ -16,7 +16,7 @@ use Rattle.monitor.proofs.view.Tie as tie
 returns : tie.Need-returns
 returns c =
     let above = lt-leb (c .before .before .before .before .args .observer) 15 (omega arith) in
-    call-beyond _ _ _ 0 (rw above) (c .refused .ensures)
+    call-beyond _ _ 0 (rw above) (c .refused .ensures)
 
 -- an accepted image
 returns-2 : tie.Need-returns-2
@@ -30,13 +30,13 @@ returns-2 c =
     let loaded = l .load .ensures .1 ∙ loaded-accepted image _ accepted in
     let same = ap (λ (s : ℕ). snapshotBytes words image s (a .observer)) (t .turn-slot .ensures) ∙ view-written image words (a .observer) loaded in
     let seen = le-leb (a .observer) 15 (omega arith) in
-    call-accepted _ _ _ (rw seen) accepted same refl (c .before .before .write-answer .ensures)
+    call-accepted _ _ (rw seen) accepted same refl (c .before .before .write-answer .ensures)
 
 -- a refused one
 returns-3 : tie.Need-returns-3
 returns-3 c =
     let seen = le-leb (c .before .before .before .before .before .before .before .args .observer) 15 (omega arith) in
-    call-refused _ _ _ (rw seen) (c .before .before .load .ensures .0) (c .before .if2 .left) (c .refused2 .ensures)
+    call-refused _ _ (rw seen) (c .before .before .load .ensures .0) (c .before .if2 .left) (c .refused2 .ensures)
 
 pub view-spec : {M : Type 1} → statement M
 view-spec =

@@ -20,7 +20,7 @@ use Rattle.sheet.proofs.write.Tie as tie
 returns : tie.Need-returns
 returns c =
     let above = lt-leb (c .before .before .before .before .args .observer) 15 (omega arith) in
-    call-beyond _ _ _ 0 (rw above) (c .refused .ensures)
+    call-beyond _ _ 0 (rw above) (c .refused .ensures)
 
 -- an accepted image: the number, and the sheet of the table
 accepted : (c : tie.Then2) → imageNumber (now (c .before .before .before .before .before .before .args .image)) ≡ 0
@@ -42,13 +42,13 @@ returns-2 : tie.Need-returns-2
 returns-2 c =
     let t = c .before .before .before .before .before in
     let seen = le-leb (c .before .before .before .before .before .before .before .before .before .before .before .args .observer) 15 (omega arith) in
-    call-accepted _ _ _ (rw seen) (accepted t) (same t) refl (c .before .before .write-answer .ensures)
+    call-accepted _ _ (rw seen) (accepted t) (same t) refl (c .before .before .write-answer .ensures)
 
 -- a refused one
 returns-3 : tie.Need-returns-3
 returns-3 c =
     let seen = le-leb (c .before .before .before .before .before .before .before .args .observer) 15 (omega arith) in
-    call-refused _ _ _ (rw seen) (c .before .before .load .ensures .0) (c .before .if2 .left) (c .refused2 .ensures)
+    call-refused _ _ (rw seen) (c .before .before .load .ensures .0) (c .before .if2 .left) (c .refused2 .ensures)
 
 pub write-spec : {M : Type 1} → statement M
 write-spec =
