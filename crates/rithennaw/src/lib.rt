@@ -1,11 +1,13 @@
 // The C interface, which include/rithennaw.h declares: each function hands its arguments to a call of the monitor or the
-// sheet's, and what the call tells to the caller. A `&[u8]` is a pointer and then a length. Each that tells
-// a number promises as well that what it was lent as the image is bytes: with number 0 that makes an accepted image.
+// sheet's, and what the call tells to the caller. A `&[u8]` is a pointer and then a length. Each that tells a number promises as
+// well that what it was lent as the image is bytes: with number 0 that makes an accepted image.
 ghost use mathlib.Core.Path.{_≡_};
 ghost use Rattle.wire.specs.Lists.{Bytes};
 ghost use Rattle.image.specs.Refusal.{imageNumber};
-ghost use Rattle.monitor.specs.Calls.{extentAnswer, rewriteAnswer, rewriteOutput, turnsAnswer, turnsOutput, viewAnswer, viewOutput};
-ghost use Rattle.sheet.specs.Sheet.{sheetAnswer, sheetOutput};
+ghost use Rattle.image.specs.Part.{recordExtent};
+ghost use Rattle.monitor.specs.Calls.{callAnswer, rewriteCall, turnsCall, viewCall};
+ghost use Rattle.sheet.specs.Sheet.{sheetCall};
+ghost use Rattle.rithennaw.specs.Told.{Told};
 
 // The number of an image, 0 where it is accepted.
 #[no_mangle]
@@ -18,8 +20,8 @@ pub extern "C" fn rithennaw_check(image: &[u8]) -> u8
 // Where the record of a slot stands in the image: start and length both 0 where it has none.
 #[no_mangle]
 pub extern "C" fn rithennaw_record(image: &[u8], slot: u32, start: &mut usize, length: &mut usize)
-    ensures { λ _. ⌜ (now (start .exit) ≡ extentAnswer (now (image .entry)) slot .start)
-        × (now (length .exit) ≡ extentAnswer (now (image .entry)) slot .length) ⌝ }
+    ensures { λ _. ⌜ (now (start .exit) ≡ recordExtent (now (image .entry)) slot .start)
+        × (now (length .exit) ≡ recordExtent (now (image .entry)) slot .length) ⌝ }
 {
     let extent = monitor::record_extent(image, slot);
     *start = extent.start;
@@ -29,10 +31,7 @@ pub extern "C" fn rithennaw_record(image: &[u8], slot: u32, start: &mut usize, l
 // Writes an image again as it was read.
 #[no_mangle]
 pub extern "C" fn rithennaw_rewrite(image: &[u8], out: &mut [u8], length: &mut usize) -> u8
-    ensures { λ r. ⌜ (r ≡ rewriteAnswer (now (image .entry)) (now (out .entry)) .number)
-        × (now (length .exit) ≡ rewriteAnswer (now (image .entry)) (now (out .entry)) .length)
-        × (now (out .exit) ≡ rewriteOutput (now (image .entry)) (now (out .entry)))
-        × Bytes (now (image .entry)) ⌝ }
+    ensures { λ r. ⌜ Told (rewriteCall (now (image .entry))) (now (out .entry)) r (now (length .exit)) (now (out .exit)) ⌝ }
 {
     let rewritten = monitor::rewrite(image, out);
     *length = rewritten.length;
@@ -48,11 +47,8 @@ pub extern "C" fn rithennaw_turns(
     length: &mut usize,
     busy: &mut u64,
 ) -> u8
-    ensures { λ r. ⌜ (r ≡ turnsAnswer count (now (image .entry)) (now (out .entry)) .number)
-        × (now (length .exit) ≡ turnsAnswer count (now (image .entry)) (now (out .entry)) .length)
-        × (now (busy .exit) ≡ turnsAnswer count (now (image .entry)) (now (out .entry)) .busy)
-        × (now (out .exit) ≡ turnsOutput count (now (image .entry)) (now (out .entry)))
-        × Bytes (now (image .entry)) ⌝ }
+    ensures { λ r. ⌜ Told (turnsCall count (now (image .entry))) (now (out .entry)) r (now (length .exit)) (now (out .exit))
+        × (now (busy .exit) ≡ callAnswer (turnsCall count (now (image .entry))) (now (out .entry)) .busy) ⌝ }
 {
     let turned = monitor::turns(image, count, out);
     *length = turned.length;
@@ -68,10 +64,7 @@ pub extern "C" fn rithennaw_view(
     out: &mut [u8],
     length: &mut usize,
 ) -> u8
-    ensures { λ r. ⌜ (r ≡ viewAnswer observer (now (image .entry)) (now (out .entry)) .number)
-        × (now (length .exit) ≡ viewAnswer observer (now (image .entry)) (now (out .entry)) .length)
-        × (now (out .exit) ≡ viewOutput observer (now (image .entry)) (now (out .entry)))
-        × Bytes (now (image .entry)) ⌝ }
+    ensures { λ r. ⌜ Told (viewCall observer (now (image .entry))) (now (out .entry)) r (now (length .exit)) (now (out .exit)) ⌝ }
 {
     let viewed = monitor::view(image, observer, out);
     *length = viewed.length;
@@ -86,10 +79,7 @@ pub extern "C" fn rithennaw_sheet(
     out: &mut [u8],
     length: &mut usize,
 ) -> u8
-    ensures { λ r. ⌜ (r ≡ sheetAnswer observer (now (image .entry)) (now (out .entry)) .number)
-        × (now (length .exit) ≡ sheetAnswer observer (now (image .entry)) (now (out .entry)) .length)
-        × (now (out .exit) ≡ sheetOutput observer (now (image .entry)) (now (out .entry)))
-        × Bytes (now (image .entry)) ⌝ }
+    ensures { λ r. ⌜ Told (sheetCall observer (now (image .entry))) (now (out .entry)) r (now (length .exit)) (now (out .exit)) ⌝ }
 {
     let listed = sheet::write(image, observer, out);
     *length = listed.length;

@@ -11,12 +11,12 @@ use lib.ListN.{length, getD, drop}
 use Rattle.wire.specs.Lists.{Bytes}
 use Rattle.wire.specs.Output.{overwrite}
 use Rattle.wire.proofs.Lists.{split}
-use Rattle.image.specs.Refusal.{_then_, unless, imageNumber}
+use Rattle.image.specs.Refusal.{_then_, unless, observerNumber, imageNumber}
 use Rattle.image.proofs.Refusal.{then-right, then-stop, then-assoc, then-holds, unless-holds}
 use Rattle.image.proofs.Image.{image-listed}
 use Rattle.monitor.specs.Calls.{callNumber, callAnswer, callOutput}
 use Rattle.monitor.proofs.Calls.{answer-number}
-use Rattle.sheet.specs.Sheet.{sheetBytes, sheetCall, sheetAnswer, sheetOutput, refusalLine, printedFor, printed}
+use Rattle.sheet.specs.Sheet.{sheetBytes, sheetCall, refusalLine, printedFor, printed}
 use Rattle.sheet.proofs.Sheet.{sheet-fits, refusal-length}
 
 -- ---- an observer byte and an image
@@ -24,37 +24,37 @@ use Rattle.sheet.proofs.Sheet.{sheet-fits, refusal-length}
 module _ (v : ℕ) (image out : List ℕ) (bytes : Bytes image) (room : 318 ≤ length out) where
   -- the first number met ahead of 13
   abbrev met : ℕ
-  met = unless (leb v 15) 1 then imageNumber image
+  met = observerNumber v then imageNumber image
 
   fits : met ≡ 0 → length (sheetBytes v image) ≤ 318
-  fits e = sheet-fits v image bytes (then-right (unless (leb v 15) 1) (imageNumber image) e)
+  fits e = sheet-fits v image bytes (then-right (observerNumber v) (imageNumber image) e)
 
   -- 13 is never told
-  told : callNumber (sheetCall v image) image out ≡ met
+  told : callNumber (sheetCall v image) out ≡ met
   unfolding callNumber
   told =
-      sym (then-assoc (unless (leb v 15) 1) (imageNumber image) (unless (leb (length (sheetBytes v image)) (length out)) 13))
+      sym (then-assoc (observerNumber v) (imageNumber image) (unless (leb (length (sheetBytes v image)) (length out)) 13))
       ∙ split (eqb met 0)
       (λ e. let none = eqb-true met 0 e in rw (none, le-leb (length (sheetBytes v image)) (length out) (omega (arith, fits none))))
       (λ e. then-stop met (eqb-false met 0 e) (unless (leb (length (sheetBytes v image)) (length out)) 13))
 
-  pub printed-accepted : sheetAnswer v image out .number ≡ 0
-      → (sheetAnswer v image out .length ≡ length (printedFor v image)) × (sheetOutput v image out ≡ overwrite (printedFor v image) out)
+  pub printed-accepted : callAnswer (sheetCall v image) out .number ≡ 0
+      → (callAnswer (sheetCall v image) out .length ≡ length (printedFor v image)) × (callOutput (sheetCall v image) out ≡ overwrite (printedFor v image) out)
       × (length (printedFor v image) ≤ 318)
   unfolding callAnswer callOutput
   printed-accepted e =
-      let number = sym (answer-number (sheetCall v image) image out) ∙ e in
+      let number = sym (answer-number (sheetCall v image) out) ∙ e in
       let none = sym told ∙ number in
       rw (number, none) (refl, refl, fits none)
 
-  pub printed-refused : sheetAnswer v image out .number ≢ 0
-      → (printedFor v image ≡ refusalLine (sheetAnswer v image out .number)) × (sheetOutput v image out ≡ out)
+  pub printed-refused : callAnswer (sheetCall v image) out .number ≢ 0
+      → (printedFor v image ≡ refusalLine (callAnswer (sheetCall v image) out .number)) × (callOutput (sheetCall v image) out ≡ out)
       × (length (printedFor v image) ≤ 12)
   unfolding callOutput
   printed-refused e =
-      let same = answer-number (sheetCall v image) image out ∙ told in
+      let same = answer-number (sheetCall v image) out ∙ told in
       let some = ne-eqb met 0 (λ z. e (same ∙ z)) in
-      let most : met < 1000 = then-holds (λ x. x < 1000) (unless (leb v 15) 1) (imageNumber image)
+      let most : met < 1000 = then-holds (λ x. x < 1000) (observerNumber v) (imageNumber image)
       (unless-holds (λ x. x < 1000) (leb v 15) 1 (omega arith) (omega arith)) (omega (arith, image-listed image .most)) in
       (rw (some, same), rw (told, some), rw some (refusal-length met most))
 

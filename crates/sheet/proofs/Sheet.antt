@@ -22,7 +22,7 @@ use Rattle.image.proofs.Image.{accepted-valid}
 use Rattle.table.specs.Table.{slotsIn}
 use Rattle.sheet.specs.Text.{ascii, decimal, spaced, lineRest}
 use Rattle.sheet.specs.Sheet.{heading, slotLine, slotLines, sheetText, sheetBytes, refusalLine}
-use Rattle.sheet.specs.Shown.{shownLine, shownLines, shownSheet}
+use Rattle.sheet.specs.Inner.{shownLine, shownLines, shownSheet}
 use Rattle.sheet.proofs.Text.{decimal-width, length-spaced, length-line}
 
 -- ---- the table's sheet

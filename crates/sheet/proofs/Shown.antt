@@ -18,7 +18,7 @@ use Rattle.snapshot.specs.Writing.{isShown}
 use Rattle.snapshot.proofs.Writing.{viewSlot-shown, viewSlot-hidden}
 use Rattle.sheet.specs.Text.{decimal, lineRest}
 use Rattle.sheet.specs.Sheet.{slotLine}
-use Rattle.sheet.specs.Shown.{shownTaskLine, shownLine, shownLines}
+use Rattle.sheet.specs.Inner.{shownTaskLine, shownLine, shownLines}
 
 -- ---- a line
 

@@ -1,18 +1,17 @@
 -- The observer sheet, the call that writes it, and what the program `slotsheet` prints.
 use Prim.Native.Nat.{ℕ}
-use mathlib.Core.Path.{_≡_}
 use mathlib.Core.Bool.{cond}
 use mathlib.Core.List.{List, [], _∷_, _++_}
 use lib.Dec.{leb, eqb}
 use lib.ListN.{length}
 use Rattle.wire.specs.Lists.{tabulate}
 use Rattle.wire.specs.Items.{encodeItems}
+use Rattle.machine.specs.Limits.{inputRoom}
 use Rattle.machine.specs.State.{Slot, unused, used, State, slotAt}
 use Rattle.machine.specs.Machine.{view}
-use Rattle.image.specs.Refusal.{_then_, unless, imageNumber}
+use Rattle.image.specs.Refusal.{_then_, observerNumber, imageNumber}
 use Rattle.image.specs.Image.{stateOf}
-use Rattle.monitor.specs.declared.Answer.{Answer}
-use Rattle.monitor.specs.Calls.{Call, callAnswer, callOutput}
+use Rattle.monitor.specs.Calls.{Call}
 use Rattle.sheet.specs.Text.{ascii, decimal, lineRest}
 
 -- ---- the sheet: a heading and one line per used slot
@@ -37,17 +36,7 @@ abbrev pub sheetBytes : ℕ → List ℕ → List ℕ
 sheetBytes v image = sheetText (view v (stateOf image))
 
 abbrev pub sheetCall : ℕ → List ℕ → Call
-sheetCall v image = record { argumentNumber = unless (leb v 15) 1; bytes = sheetBytes v image; busy = 0 }
-
-abbrev pub sheetAnswer : ℕ → List ℕ → List ℕ → Answer
-sheetAnswer v image out = callAnswer (sheetCall v image) image out
-
-abbrev pub sheetOutput : ℕ → List ℕ → List ℕ → List ℕ
-sheetOutput v image out = callOutput (sheetCall v image) image out
-
--- what the code promises of a call that told this and whose output then held `after`
-abbrev pub SheetPromise : ℕ → List ℕ → List ℕ → Answer → List ℕ → Type 0
-SheetPromise v image out told after = (told ≡ sheetAnswer v image out) × (after ≡ sheetOutput v image out)
+sheetCall v image = record { argumentNumber = observerNumber v; image = image; bytes = sheetBytes v image; busy = 0 }
 
 -- ---- the program
 
@@ -57,7 +46,7 @@ refusalLine n = ascii "refused" ++ lineRest (n ∷ [])
 -- of an observer byte and an image: the sheet, or the number that the call tells where its output has room
 abbrev pub printedFor : ℕ → List ℕ → List ℕ
 printedFor v image =
-    let n = sheetCall v image .argumentNumber then imageNumber image in
+    let n = observerNumber v then imageNumber image in
     cond (eqb n 0) (sheetBytes v image) (refusalLine n)
 
 -- of standard input: one observer byte and then an image. Empty input prints `refused 3`.
@@ -67,4 +56,4 @@ printedWithin (v ∷ image) = printedFor v image
 
 -- longer input than 8,192 bytes is `refused 11`, ahead of every other
 unfoldable pub printed : List ℕ → List ℕ
-printed input = cond (leb (length input) 8192) (printedWithin input) (refusalLine 11)
+printed input = cond (leb (length input) inputRoom) (printedWithin input) (refusalLine 11)

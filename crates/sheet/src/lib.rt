@@ -5,12 +5,14 @@ ghost use lib.ListN.{length};
 ghost use Rattle.wire.specs.Items.{encodeItems};
 ghost use Rattle.wire.specs.Output.{overwrite};
 ghost use Rattle.wire.specs.Inner.{written};
+ghost use Rattle.machine.specs.Limits.{sheetRoom};
 ghost use Rattle.table.specs.Table.{slotsIn};
 ghost use Rattle.table.specs.Change.{taskAt};
-ghost use Rattle.monitor.specs.Calls.{outputAnswer};
+ghost use Rattle.monitor.specs.Calls.{CallPromise};
+ghost use Rattle.monitor.specs.Inner.{outputAnswer};
 ghost use Rattle.sheet.specs.Text.{decimal, spaced, lineRest};
-ghost use Rattle.sheet.specs.Sheet.{refusalLine, sheetAnswer, sheetOutput, printed};
-ghost use Rattle.sheet.specs.Shown.{shownTaskLine, shownLine, shownLines, shownSheet};
+ghost use Rattle.sheet.specs.Sheet.{sheetCall, refusalLine, printed};
+ghost use Rattle.sheet.specs.Inner.{shownTaskLine, shownLine, shownLines, shownSheet};
 
 // No sheet is longer, in bytes: the heading, and sixteen lines of at most eighteen.
 pub const SHEET_MAX: usize = 318;
@@ -132,7 +134,7 @@ fn put_sheet(out: &mut [u8], table: &table::Table, observer: u8) -> usize
 // Ends a call whose image is accepted: writes the sheet of the table's tasks as the observer sees them, or tells 13 where
 // the output has no room for it. The sheet is made in a buffer of its own first: only then is its length known.
 fn write_answer(out: &mut [u8], table: &table::Table, observer: u8) -> monitor::Answer
-    requires { ⌜ length (shownSheet observer (now table)) ≤ 318 ⌝ }
+    requires { ⌜ length (shownSheet observer (now table)) ≤ sheetRoom ⌝ }
     ensures { λ r. ⌜ (r ≡ outputAnswer (shownSheet observer (now (table .entry))) 0 (now (out .entry)))
         × (now (out .exit) ≡ written (shownSheet observer (now (table .entry))) (now (out .entry))) ⌝ }
 {
@@ -152,8 +154,7 @@ fn write_answer(out: &mut [u8], table: &table::Table, observer: u8) -> monitor::
 
 // Writes the sheet of an image's view for an observer.
 pub fn write(image: &[u8], observer: u32, out: &mut [u8]) -> monitor::Answer
-    ensures { λ r. ⌜ (r ≡ sheetAnswer observer (now (image .entry)) (now (out .entry)))
-        × (now (out .exit) ≡ sheetOutput observer (now (image .entry)) (now (out .entry))) ⌝ }
+    ensures { λ r. ⌜ CallPromise (sheetCall observer (now (image .entry))) (now (out .entry)) r (now (out .exit)) ⌝ }
 {
     if observer > 15 {
         return monitor::refused(1);
@@ -183,7 +184,7 @@ fn put_refusal(out: &mut [u8], number: u8) -> usize
 
 // Writes all that the program prints for its standard input, an observer byte and then an image: how many bytes.
 pub fn print(input: &[u8], out: &mut [u8; SHEET_MAX]) -> usize
-    ensures { λ r. ⌜ (r ≡ length (printed (now (input .entry)))) × (r ≤ 318)
+    ensures { λ r. ⌜ (r ≡ length (printed (now (input .entry)))) × (r ≤ sheetRoom)
         × (now (out .exit) ≡ overwrite (printed (now (input .entry))) (now (out .entry))) ⌝ }
 {
     if input.len() > INPUT_MAX {

@@ -12,7 +12,7 @@ returns c =
     let r = c .before .before .turns in
     let k = c .before .before .before .before .before in
     let bytes = every-of IsByte 0 (now (k .before .args .image)) (λ i. k .shared-slice-known .given i .fits) in
-    rw (r .ensures .0) (refl, refl, refl, r .ensures .1, bytes)
+    rw (r .ensures .0) ((refl, refl, r .ensures .1, bytes), refl)
 
 pub rithennaw-turns-spec : {M : Type 1} → statement M
 rithennaw-turns-spec = tie.close (tie.spec (λ c κs. tt) (λ c. search needs) returns)

@@ -11,7 +11,8 @@ use Rattle.wire.specs.Lists.{IsByte, Bytes}
 use Rattle.wire.proofs.Lists.{every-of, every-drop}
 use Rattle.wire.proofs.Output.{rest}
 use Rattle.monitor.specs.declared.Answer.{Answer}
-use Rattle.sheet.specs.Sheet.{refusalLine, printed, printedFor, sheetAnswer, sheetOutput}
+use Rattle.monitor.specs.Calls.{callAnswer, callOutput}
+use Rattle.sheet.specs.Sheet.{sheetCall, refusalLine, printed, printedFor}
 use Rattle.sheet.proofs.Sheet.{refusal-length}
 use Rattle.sheet.proofs.Printed.{printed-long, printed-empty, printed-parts, printed-accepted, printed-refused}
 use Rattle.sheet.proofs.print.Statement.{statement}
@@ -48,11 +49,11 @@ room : (w : tie.After-write) → length (output w) ≡ 318
 room w = w .before .write-arg2 .given .0 .1
 
 -- what the call told and wrote
-told : (w : tie.After-write) → w .write .result ≡ sheetAnswer (getD (input w) 0 0) (drop 1 (input w)) (output w)
-told w = w .write .ensures .0 ∙ ap (λ (b : List ℕ). sheetAnswer (getD (input w) 0 0) b (output w)) (rest 1 (input w))
+told : (w : tie.After-write) → w .write .result ≡ callAnswer (sheetCall (getD (input w) 0 0) (drop 1 (input w))) (output w)
+told w = w .write .ensures .0 ∙ ap (λ (b : List ℕ). callAnswer (sheetCall (getD (input w) 0 0) b) (output w)) (rest 1 (input w))
 
-after : (w : tie.After-write) → w .write .last .1 .1 .0 ≡ sheetOutput (getD (input w) 0 0) (drop 1 (input w)) (output w)
-after w = w .write .ensures .1 ∙ ap (λ (b : List ℕ). sheetOutput (getD (input w) 0 0) b (output w)) (rest 1 (input w))
+after : (w : tie.After-write) → w .write .last .1 .1 .0 ≡ callOutput (sheetCall (getD (input w) 0 0) (drop 1 (input w))) (output w)
+after w = w .write .ensures .1 ∙ ap (λ (b : List ℕ). callOutput (sheetCall (getD (input w) 0 0) b) (output w)) (rest 1 (input w))
 
 -- a refusal: its line, and nothing written by the call
 refused : (w : tie.After-write) → w .write .result .number ≢ 0

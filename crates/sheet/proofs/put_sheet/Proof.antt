@@ -9,7 +9,7 @@ use Rattle.wire.proofs.Output.{FrontWritten, front-copied, part-inside, part-ro
 use Rattle.table.specs.Table.{slotsIn}
 use Rattle.sheet.specs.Text.{ascii}
 use Rattle.sheet.specs.Sheet.{heading}
-use Rattle.sheet.specs.Shown.{shownLines, shownSheet}
+use Rattle.sheet.specs.Inner.{shownLines, shownSheet}
 use Rattle.sheet.proofs.put_sheet.Statement.{statement}
 use Rattle.sheet.proofs.put_sheet.Tie as tie
 

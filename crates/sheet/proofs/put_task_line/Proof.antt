@@ -9,7 +9,7 @@ use Rattle.wire.proofs.Output.{FrontWritten, part-inside, part-room, both-writt
 use Rattle.table.specs.Table.{slotsIn}
 use Rattle.table.specs.Change.{taskAt}
 use Rattle.sheet.specs.Text.{decimal, lineRest}
-use Rattle.sheet.specs.Shown.{shownTaskLine}
+use Rattle.sheet.specs.Inner.{shownTaskLine}
 use Rattle.sheet.proofs.Shown.{task-line}
 use Rattle.sheet.proofs.put_task_line.Statement.{statement}
 use Rattle.sheet.proofs.put_task_line.Tie as tie

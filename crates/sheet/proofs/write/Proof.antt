@@ -11,7 +11,7 @@ use Rattle.image.specs.Refusal.{imageNumber}
 use Rattle.snapshot.proofs.Loading.{loaded-accepted}
 use Rattle.monitor.proofs.Calls.{call-beyond, call-refused, call-accepted}
 use Rattle.sheet.specs.Sheet.{sheetBytes}
-use Rattle.sheet.specs.Shown.{shownSheet}
+use Rattle.sheet.specs.Inner.{shownSheet}
 use Rattle.sheet.proofs.Sheet.{sheet-shown, sheet-fits}
 use Rattle.sheet.proofs.write.Statement.{statement}
 use Rattle.sheet.proofs.write.Tie as tie

@@ -9,7 +9,7 @@ use lib.ListN.{length, take}
 use Rattle.wire.specs.Inner.{written}
 use Rattle.wire.proofs.Output.{written-front}
 use Rattle.monitor.proofs.Calls.{told-fits, told-13}
-use Rattle.sheet.specs.Shown.{shownSheet}
+use Rattle.sheet.specs.Inner.{shownSheet}
 use Rattle.sheet.proofs.write_answer.Statement.{statement}
 use Rattle.sheet.proofs.write_answer.Tie as tie
 

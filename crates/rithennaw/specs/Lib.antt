@@ -1,0 +1,2 @@
+-- The definitions of the crate `rithennaw`, a file each.
+pub mod Told
