@@ -3,7 +3,7 @@
 use imagetext::Fault;
 use rithennaw::{record, sheet, turns, view, Refusal};
 
-use crate::example::{examples, Register, Sheet};
+use crate::example::{examples, Instruction, Register, Sheet};
 
 /// How much of a page was compared.
 #[derive(Debug, Default, PartialEq, Eq)]
@@ -11,6 +11,7 @@ pub struct Compared {
     pub images: usize,
     pub sheets: usize,
     pub registers: usize,
+    pub instructions: usize,
 }
 
 /// Compares a whole page, or tells the first line that has not its form or says something else than the monitor.
@@ -22,6 +23,7 @@ pub fn compare(page: &str) -> Result<Compared, Fault> {
             compare_sheet(&example.image, sheet)?;
             compared.sheets += 1;
             compared.registers += sheet.registers.len();
+            compared.instructions += sheet.instructions.len();
         }
     }
     Ok(compared)
@@ -33,7 +35,8 @@ fn compare_sheet(image: &[u8], should: &Sheet) -> Result<(), Fault> {
     if text != should.text {
         return Err(Fault { line: should.line, message: format!("the monitor gives\n{text}") });
     }
-    should.registers.iter().try_for_each(|register| compare_register(&view, register))
+    should.registers.iter().try_for_each(|register| compare_register(&view, register))?;
+    should.instructions.iter().try_for_each(|instruction| compare_instruction(&view, instruction))
 }
 
 /// The observer's sheet and its view.
@@ -50,6 +53,24 @@ fn compare_register(view: &[u8], should: &Register) -> Result<(), Fault> {
         None => "the observer is shown no such register".into(),
     };
     Err(Fault { line: should.line, message })
+}
+
+fn compare_instruction(view: &[u8], should: &Instruction) -> Result<(), Fault> {
+    let message = match instructions(view).nth(should.place) {
+        Some(bytes) if bytes == should.bytes => return Ok(()),
+        Some(bytes) => format!("the monitor gives the bytes {bytes:02X?}"),
+        None => "the observer is shown no such instruction".into(),
+    };
+    Err(Fault { line: should.line, message })
+}
+
+/// The instructions of an image, four bytes each; none where there is no image.
+fn instructions(image: &[u8]) -> impl Iterator<Item = &[u8]> {
+    let bytes = match image {
+        [_, high, low, rest @ ..] => rest.get(..usize::from(u16::from_be_bytes([*high, *low]))),
+        _ => None,
+    };
+    bytes.unwrap_or_default().chunks(4)
 }
 
 /// The eight registers of a record; none where the slot is unused.

@@ -18,6 +18,7 @@ pub struct Sheet {
     /// The lines that the monitor gives, each with its line feed.
     pub text: String,
     pub registers: Vec<Register>,
+    pub instructions: Vec<Instruction>,
 }
 
 pub struct Register {
@@ -25,6 +26,12 @@ pub struct Register {
     pub slot: u32,
     pub index: usize,
     pub value: u32,
+}
+
+pub struct Instruction {
+    pub line: usize,
+    pub place: usize,
+    pub bytes: [u8; 4],
 }
 
 /// The examples in order. A block that is none is a fault, so that a mistake in its first line does not leave it out.
@@ -63,6 +70,10 @@ fn read_sheets(lines: &[&str], first: usize) -> Result<Vec<Sheet>, Fault> {
                 let register = register(line, words).ok_or_else(|| fault("register R of slot S is VALUE"))?;
                 sheet.registers.push(register);
             }
+            (Some(sheet), Some("instruction")) => {
+                let instruction = instruction(line, words).ok_or_else(|| fault("instruction P is WORD A B C"))?;
+                sheet.instructions.push(instruction);
+            }
             (Some(sheet), _) => sheet.text += &format!("{words}\n"),
         }
     }
@@ -73,11 +84,19 @@ fn sheet(line: usize, words: &str) -> Option<Sheet> {
     let words: Vec<&str> = words.split(' ').collect();
     let ["after", turns, "turn," | "turns,", "observer", observer] = words[..] else { return None };
     let (turns, observer) = (turns.parse().ok()?, observer.parse().ok()?);
-    Some(Sheet { line, turns, observer, text: String::new(), registers: Vec::new() })
+    Some(Sheet { line, turns, observer, text: String::new(), registers: Vec::new(), instructions: Vec::new() })
 }
 
 fn register(line: usize, words: &str) -> Option<Register> {
     let words: Vec<&str> = words.split(' ').collect();
     let ["register", index, "of", "slot", slot, "is", value] = words[..] else { return None };
     Some(Register { line, slot: slot.parse().ok()?, index: index.parse().ok()?, value: value.parse().ok()? })
+}
+
+/// The bytes are those of an image whose program is the instruction alone.
+fn instruction(line: usize, words: &str) -> Option<Instruction> {
+    let (place, text) = words.strip_prefix("instruction ")?.split_once(" is ")?;
+    let image = imagetext::image(&format!("program\n{text}")).ok()?;
+    let [_, 0, 4, code, a, b, c, ..] = image[..] else { return None };
+    Some(Instruction { line, place: place.parse().ok()?, bytes: [code, a, b, c] })
 }

@@ -2,7 +2,8 @@
 //!
 //! An example is a fenced block with the word `example`: an image as text, and then one sheet or more. A sheet is a line
 //! `after N turns, observer V`, the lines that the monitor gives for it (or `refused` and the number), and any number of
-//! lines `register R of slot S is VALUE`, about the registers in the observer's view.
+//! lines `register R of slot S is VALUE` and `instruction P is WORD A B C`, about the registers and the program in the
+//! observer's view.
 
 #![forbid(unsafe_code)]
 

@@ -14,6 +14,7 @@ after 0 turns, observer 0
 slot kind label spare pc mail
 0 1 0 0 0 0
 register 7 of slot 0 is 9
+instruction 0 is raise 1 0 0
 after 1 turn, observer 0
 slot kind label spare pc mail
 after 1 turn, observer 16
@@ -28,8 +29,8 @@ refused 5
 
 #[test]
 fn everything_is_counted() {
-    assert_eq!(compare(PAGE), Ok(Compared { images: 2, sheets: 4, registers: 1 }));
-    assert_eq!(compare("# No example\n"), Ok(Compared { images: 0, sheets: 0, registers: 0 }));
+    assert_eq!(compare(PAGE), Ok(Compared { images: 2, sheets: 4, registers: 1, instructions: 1 }));
+    assert_eq!(compare("# No example\n"), Ok(Compared::default()));
 }
 
 /// The page with one change has this fault.
@@ -45,10 +46,13 @@ fn what_the_monitor_does_not_give() {
     expect_fault("\n0 1 0 0 0 0\n", "\n0 1 0 0 1 0\n", &format!("8: the monitor gives\n{sheet}"));
     expect_fault("\n0 1 0 0 0 0\n", "\n0 1 0 0 0 0\n\n", &format!("8: the monitor gives\n{sheet}"));
     expect_fault("after 0 turns", "after 1 turns", "8: the monitor gives\nslot kind label spare pc mail\n");
-    expect_fault("refused 1", "refused 2", "14: the monitor gives\nrefused 1\n");
+    expect_fault("refused 1", "refused 2", "15: the monitor gives\nrefused 1\n");
     expect_fault("is 9", "is 8", "11: the monitor gives 9");
     expect_fault("register 7 of", "register 8 of", "11: the observer is shown no such register");
     expect_fault("of slot 0", "of slot 1", "11: the observer is shown no such register");
+    expect_fault("is raise 1", "is raise 2", "12: the monitor gives the bytes [07, 01, 00, 00]");
+    expect_fault("instruction 0", "instruction 1", "12: the observer is shown no such instruction");
+    expect_fault("refused 1", "refused 1\ninstruction 0 is end 0 0 0", "17: the observer is shown no such instruction");
 }
 
 #[test]
@@ -56,14 +60,18 @@ fn what_has_not_the_form() {
     expect_fault("```example\nprogram", "```\nprogram", "3: the block's word is ``, not `example`");
     expect_fault("```example\nprogram", "```exmaple\nprogram", "3: the block's word is `exmaple`, not `example`");
     expect_fault("refused 1\n```", "refused 1", "3: this block is not closed");
-    expect_fault("refused 5\n```", "refused 5", "17: this block is not closed");
-    expect_fault("raise 1", "rise 1", "5: `rise` is not an instruction");
+    expect_fault("refused 5\n```", "refused 5", "18: this block is not closed");
+    expect_fault("    raise 1", "    rise 1", "5: `rise` is not an instruction");
     expect_fault("after 0 turns,", "after 0 turns", "8: `after 0 turns observer 0` is not `after N turns, observer V`");
     expect_fault(
         "turn, observer 16",
         "turn, observer x",
-        "14: `after 1 turn, observer x` is not `after N turns, observer V`",
+        "15: `after 1 turn, observer x` is not `after N turns, observer V`",
     );
     expect_fault("slot 0 is 9", "slot 0: 9", "11: `register 7 of slot 0: 9` is not `register R of slot S is VALUE`");
-    expect_fault("slot 0\nafter 1 turn, ", "slot 0\n# ", "17: this example has no line `after N turns, observer V`");
+    for wrong in ["0 is rise 1 0 0", "0 is here:", "0: raise 1 0 0", "x is raise 1 0 0"] {
+        let should = format!("12: `instruction {wrong}` is not `instruction P is WORD A B C`");
+        expect_fault("0 is raise 1 0 0", wrong, &should);
+    }
+    expect_fault("slot 0\nafter 1 turn, ", "slot 0\n# ", "18: this example has no line `after N turns, observer V`");
 }
