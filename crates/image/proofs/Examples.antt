@@ -32,4 +32,5 @@ examples = record {
   whole = (refl, refl);
   slots = (refl, refl, refl);
   order = refl;
+  call = (refl, refl, refl, refl);
 }

@@ -1,13 +1,13 @@
 -- Images as rows of one claim: the shortest and the longest, one for each number, and those with two faults, which get the
 -- first met.
-use Prim.Native.Nat.{ℕ, zero, suc}
+use Prim.Native.Nat.{ℕ, zero, suc, _+_}
 use mathlib.Core.Path.{_≡_}
 use mathlib.Core.List.{List, [], _∷_, _++_}
 use lib.ListN.{length, set, take, replicate}
-use Rattle.machine.specs.Limits.{shortestImage, longestImage}
+use Rattle.machine.specs.Limits.{shortestImage, longestImage, turnLimit}
 use Rattle.machine.specs.State.{Message, Task, Slot, unused, used, withKind, withMailbox}
 use Rattle.image.specs.Image.{imageBytes}
-use Rattle.image.specs.Refusal.{imageNumber}
+use Rattle.image.specs.Refusal.{observerNumber, turnsNumber, imageNumber, firstMet}
 
 -- a live task with its registers 0 and no mail
 abbrev pub task : ℕ → ℕ → ℕ → Task
@@ -74,3 +74,8 @@ pub record Examples : Type 0 where
       × (numberOf (two 0 (ofTwo 5) 1 (withKind 9 (task 0 0 0))) ≡ 10)
   -- "Then 11, 12": 11 ahead of 12
   pub order : imageNumber (image (two 3 (task 0 2 0) 5 (task 0 0 0)) ++ (0 ∷ [])) ≡ 11
+  -- "Order: 1 or 2 first [..]. Then the image from front to back [..] 13": of a call that writes a byte into an output of none
+  pub call : (firstMet (observerNumber 16) [] (0 ∷ []) [] ≡ 1)
+      × (firstMet (turnsNumber (turnLimit + 1)) [] (0 ∷ []) [] ≡ 2)
+      × (firstMet 0 [] (0 ∷ []) [] ≡ 3)
+      × (firstMet 0 emptyImage (0 ∷ []) [] ≡ 13)
