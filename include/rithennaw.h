@@ -31,6 +31,18 @@
 extern "C" {
 #endif
 
+/* The version of the library, as numbers and as text: "0.1.0". An image has a version of its own, its first byte. */
+#define RITHENNAW_VERSION_MAJOR 0
+#define RITHENNAW_VERSION_MINOR 1
+#define RITHENNAW_VERSION_PATCH 0
+#define RITHENNAW_VERSION_STRING \
+    RITHENNAW_TEXT(RITHENNAW_VERSION_MAJOR) "." RITHENNAW_TEXT(RITHENNAW_VERSION_MINOR) "." \
+    RITHENNAW_TEXT(RITHENNAW_VERSION_PATCH)
+
+/* What a macro stands for, as text. It takes two steps: # by itself would give the macro's name. */
+#define RITHENNAW_TEXT(macro) RITHENNAW_TEXT_OF(macro)
+#define RITHENNAW_TEXT_OF(words) #words
+
 /* The shortest and the longest image. An output of RITHENNAW_IMAGE_MAX bytes is long enough for every call. */
 #define RITHENNAW_IMAGE_MIN 40
 #define RITHENNAW_IMAGE_MAX 7796
@@ -46,23 +58,59 @@ extern "C" {
 /* Stack that is enough for one call, in bytes. */
 #define RITHENNAW_STACK 32768
 
-/* The numbers that a call returns. */
+/* The numbers that a call returns. Each has a sentence, which rithennaw_refusal_text gives. */
 enum rithennaw_number {
+    /* The call was accepted. */
     RITHENNAW_ACCEPTED = 0,
-    RITHENNAW_OBSERVER = 1,        /* view, sheet: the label asked for is above 15 */
-    RITHENNAW_TURN_LIMIT = 2,      /* turns: more than 1,000,000 turns */
-    RITHENNAW_SHORT = 3,           /* the image ends before the last byte of the field or part being read */
-    RITHENNAW_VERSION = 4,         /* the first byte isn't 1 */
-    RITHENNAW_PROGRAM_LENGTH = 5,  /* no multiple of 4 from 4 to 1,024 */
-    RITHENNAW_INSTRUCTION = 6,     /* an instruction that isn't in the table, or an operand outside it */
-    RITHENNAW_TURN_SLOT = 7,       /* the turn slot is above 15 */
-    RITHENNAW_RECORD_LENGTH = 8,   /* neither 0 nor 37 + 6 * k, k at most 64 */
-    RITHENNAW_TASK_FIELD = 9,      /* kind, label or place out of range, or slot + spare above 15 */
-    RITHENNAW_MAIL = 10,           /* a message's label or sender above 15, or five or more of one label */
-    RITHENNAW_TAIL = 11,           /* bytes after slot 15 */
-    RITHENNAW_ESTATE = 12,         /* a used slot lies in another task's spare */
-    RITHENNAW_OUTPUT = 13          /* the output is shorter than the answer */
+    /* The label asked for is above 15. */
+    RITHENNAW_REFUSED_OBSERVER = 1,
+    /* More than 1,000,000 turns were asked for. */
+    RITHENNAW_REFUSED_TURN_LIMIT = 2,
+    /* The image ends before the last byte of the field or part being read. */
+    RITHENNAW_REFUSED_SHORT = 3,
+    /* The image's first byte, its version, isn't 1. */
+    RITHENNAW_REFUSED_VERSION = 4,
+    /* The program's length is no multiple of 4 from 4 to 1,024. */
+    RITHENNAW_REFUSED_PROGRAM_LENGTH = 5,
+    /* An instruction isn't in the table, or has an operand outside it. */
+    RITHENNAW_REFUSED_INSTRUCTION = 6,
+    /* The turn slot is above 15. */
+    RITHENNAW_REFUSED_TURN_SLOT = 7,
+    /* A record's length is neither 0 nor 37 + 6 * k, k at most 64. */
+    RITHENNAW_REFUSED_RECORD_LENGTH = 8,
+    /* A task's kind, label or place is out of range, or its slot + spare is above 15. */
+    RITHENNAW_REFUSED_TASK_FIELD = 9,
+    /* A message's label or sender is above 15, or a mailbox has five or more of one label. */
+    RITHENNAW_REFUSED_MAIL = 10,
+    /* There are bytes after slot 15. */
+    RITHENNAW_REFUSED_TAIL = 11,
+    /* A used slot lies in another task's spare. */
+    RITHENNAW_REFUSED_ESTATE = 12,
+    /* The output is shorter than the answer. */
+    RITHENNAW_REFUSED_OUTPUT = 13
 };
+
+/* The sentence for a number, in English: that of the enum above, or one which says that the number is none of it. */
+static inline const char *rithennaw_refusal_text(uint8_t number)
+{
+    switch (number) {
+    case RITHENNAW_ACCEPTED: return "The call was accepted.";
+    case RITHENNAW_REFUSED_OBSERVER: return "The label asked for is above 15.";
+    case RITHENNAW_REFUSED_TURN_LIMIT: return "More than 1,000,000 turns were asked for.";
+    case RITHENNAW_REFUSED_SHORT: return "The image ends before the last byte of the field or part being read.";
+    case RITHENNAW_REFUSED_VERSION: return "The image's first byte, its version, isn't 1.";
+    case RITHENNAW_REFUSED_PROGRAM_LENGTH: return "The program's length is no multiple of 4 from 4 to 1,024.";
+    case RITHENNAW_REFUSED_INSTRUCTION: return "An instruction isn't in the table, or has an operand outside it.";
+    case RITHENNAW_REFUSED_TURN_SLOT: return "The turn slot is above 15.";
+    case RITHENNAW_REFUSED_RECORD_LENGTH: return "A record's length is neither 0 nor 37 + 6 * k, k at most 64.";
+    case RITHENNAW_REFUSED_TASK_FIELD: return "A task's kind, label or place is out of range, or its slot + spare is above 15.";
+    case RITHENNAW_REFUSED_MAIL: return "A message's label or sender is above 15, or a mailbox has five or more of one label.";
+    case RITHENNAW_REFUSED_TAIL: return "There are bytes after slot 15.";
+    case RITHENNAW_REFUSED_ESTATE: return "A used slot lies in another task's spare.";
+    case RITHENNAW_REFUSED_OUTPUT: return "The output is shorter than the answer.";
+    default: return "No call of this version returns this number.";
+    }
+}
 
 /*
  * Where the record of a slot stands in the image: its bytes, without the 2-byte length ahead of them, are the *length

@@ -20,37 +20,14 @@ enum { STATUS_REFUSED = 1, STATUS_UNUSABLE = 2 };
 
 /* ---- refusals */
 
-/* The numbers as the scope document names them. A host that only forwards numbers needs no such table. */
-static const struct {
-    const char *word;
-    const char *condition;
-} rules[] = {
-    [RITHENNAW_ACCEPTED] = {"accepted", "no rule is broken"},
-    [RITHENNAW_OBSERVER] = {"observer", "the label asked for is above 15"},
-    [RITHENNAW_TURN_LIMIT] = {"turn limit", "more than 1,000,000 turns"},
-    [RITHENNAW_SHORT] = {"short", "the image ends before the last byte of the field or part being read"},
-    [RITHENNAW_VERSION] = {"version", "the first byte isn't 1"},
-    [RITHENNAW_PROGRAM_LENGTH] = {"program length", "no multiple of 4 from 4 to 1,024"},
-    [RITHENNAW_INSTRUCTION] = {"instruction", "not in the table, or an operand outside it"},
-    [RITHENNAW_TURN_SLOT] = {"turn slot", "above 15"},
-    [RITHENNAW_RECORD_LENGTH] = {"record length", "neither 0 nor 37 + 6 * k, k at most 64"},
-    [RITHENNAW_TASK_FIELD] = {"task field", "kind, label or place out of range, or slot + spare above 15"},
-    [RITHENNAW_MAIL] = {"mail", "message label or sender above 15, or five or more of one label"},
-    [RITHENNAW_TAIL] = {"tail", "bytes after slot 15"},
-    [RITHENNAW_ESTATE] = {"estate", "a used slot lies in another task's spare"},
-    [RITHENNAW_OUTPUT] = {"output", "output shorter than the answer"},
-};
-
 /*
  * Says which rule a call was refused by. What was shown so far goes out first, so that the two stand in order where
- * standard output and standard error are one file. The number is looked up with care: a later monitor may have more.
+ * standard output and standard error are one file.
  */
-static int refused(const char *call, unsigned number)
+static int refused(const char *call, uint8_t number)
 {
-    const int known = number < sizeof rules / sizeof rules[0];
     fflush(stdout);
-    fprintf(stderr, "host: %s refused with %u, %s: %s\n", call, number, known ? rules[number].word : "unknown",
-            known ? rules[number].condition : "a number that this host does not know");
+    fprintf(stderr, "host: %s refused with %u: %s\n", call, (unsigned)number, rithennaw_refusal_text(number));
     return STATUS_REFUSED;
 }
 
@@ -96,8 +73,8 @@ static int load(const char *path, struct image *image)
  */
 static int run(const struct image *before, uint64_t turns, struct image *after, uint64_t *busy)
 {
-    const unsigned number = rithennaw_turns(before->bytes, before->length, turns, after->bytes, sizeof after->bytes,
-                                            &after->length, busy);
+    const uint8_t number = rithennaw_turns(before->bytes, before->length, turns, after->bytes, sizeof after->bytes,
+                                           &after->length, busy);
     return number == RITHENNAW_ACCEPTED ? 0 : refused("rithennaw_turns", number);
 }
 
@@ -129,7 +106,7 @@ static int show_sheet(const struct image *image, uint32_t observer)
     uint8_t view[RITHENNAW_IMAGE_MAX];
     uint8_t sheet[RITHENNAW_SHEET_MAX];
     size_t view_length, sheet_length;
-    unsigned number = rithennaw_view(image->bytes, image->length, observer, view, sizeof view, &view_length);
+    uint8_t number = rithennaw_view(image->bytes, image->length, observer, view, sizeof view, &view_length);
     if (number != RITHENNAW_ACCEPTED) {
         return refused("rithennaw_view", number);
     }

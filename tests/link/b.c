@@ -256,9 +256,9 @@ static void try_rewrite(void)
     rewrites("rewrite of B", &b, OUT_LENGTH, RITHENNAW_ACCEPTED, &b);
     rewrites("rewrite of B into just enough", &b, b.length, RITHENNAW_ACCEPTED, &b);
     rewrites("rewrite of P2", &p2, OUT_LENGTH, RITHENNAW_ACCEPTED, &p2);
-    rewrites("rewrite of B cut by a byte", &cut, OUT_LENGTH, RITHENNAW_SHORT, NULL);
-    rewrites("rewrite of no bytes", &empty, 0, RITHENNAW_SHORT, NULL);
-    rewrites("rewrite of B into a byte too few", &b, b.length - 1, RITHENNAW_OUTPUT, NULL);
+    rewrites("rewrite of B cut by a byte", &cut, OUT_LENGTH, RITHENNAW_REFUSED_SHORT, NULL);
+    rewrites("rewrite of no bytes", &empty, 0, RITHENNAW_REFUSED_SHORT, NULL);
+    rewrites("rewrite of B into a byte too few", &b, b.length - 1, RITHENNAW_REFUSED_OUTPUT, NULL);
 }
 
 static void try_turns(void)
@@ -270,12 +270,12 @@ static void try_turns(void)
     turns("B after 1,000,000 turns", &b, RITHENNAW_TURNS_MAX, OUT_LENGTH, RITHENNAW_ACCEPTED, &ended, 4);
     turns("P2 after 5 turns more", &p2, 5, OUT_LENGTH, RITHENNAW_ACCEPTED, &p3, 1);
     turns("P5 after 6 turns", &p5, 6, OUT_LENGTH, RITHENNAW_ACCEPTED, &p5_after, 2);
-    turns("1,000,001 turns", &b, RITHENNAW_TURNS_MAX + 1, OUT_LENGTH, RITHENNAW_TURN_LIMIT, NULL, 0);
-    turns("2^32 turns", &b, (uint64_t)1 << 32, OUT_LENGTH, RITHENNAW_TURN_LIMIT, NULL, 0);
-    turns("1,000,001 turns of no bytes", &empty, RITHENNAW_TURNS_MAX + 1, 0, RITHENNAW_TURN_LIMIT, NULL, 0);
-    turns("turns of B cut by a byte", &cut, 1, OUT_LENGTH, RITHENNAW_SHORT, NULL, 0);
-    turns("turns of no bytes", &empty, 1, 0, RITHENNAW_SHORT, NULL, 0);
-    turns("B after 1 turn into a byte too few", &b, 1, p2.length - 1, RITHENNAW_OUTPUT, NULL, 0);
+    turns("1,000,001 turns", &b, RITHENNAW_TURNS_MAX + 1, OUT_LENGTH, RITHENNAW_REFUSED_TURN_LIMIT, NULL, 0);
+    turns("2^32 turns", &b, (uint64_t)1 << 32, OUT_LENGTH, RITHENNAW_REFUSED_TURN_LIMIT, NULL, 0);
+    turns("1,000,001 turns of no bytes", &empty, RITHENNAW_TURNS_MAX + 1, 0, RITHENNAW_REFUSED_TURN_LIMIT, NULL, 0);
+    turns("turns of B cut by a byte", &cut, 1, OUT_LENGTH, RITHENNAW_REFUSED_SHORT, NULL, 0);
+    turns("turns of no bytes", &empty, 1, 0, RITHENNAW_REFUSED_SHORT, NULL, 0);
+    turns("B after 1 turn into a byte too few", &b, 1, p2.length - 1, RITHENNAW_REFUSED_OUTPUT, NULL, 0);
 }
 
 static void try_view(void)
@@ -284,12 +284,12 @@ static void try_view(void)
     views("view of P5 for 0 into just enough", &p5_after, 0, p5_for_0.length, RITHENNAW_ACCEPTED, &p5_for_0);
     views("view of P5 for 2", &p5_after, 2, OUT_LENGTH, RITHENNAW_ACCEPTED, &p5_after);
     views("view of P5 for 15", &p5_after, 15, OUT_LENGTH, RITHENNAW_ACCEPTED, &p5_after);
-    views("view for 16", &b, 16, OUT_LENGTH, RITHENNAW_OBSERVER, NULL);
-    views("view for 256", &b, 256, OUT_LENGTH, RITHENNAW_OBSERVER, NULL);
-    views("view for 16 of no bytes", &empty, 16, 0, RITHENNAW_OBSERVER, NULL);
-    views("view of B cut by a byte", &cut, 0, OUT_LENGTH, RITHENNAW_SHORT, NULL);
-    views("view of no bytes", &empty, 0, 0, RITHENNAW_SHORT, NULL);
-    views("view of P5 for 0 into a byte too few", &p5_after, 0, p5_for_0.length - 1, RITHENNAW_OUTPUT, NULL);
+    views("view for 16", &b, 16, OUT_LENGTH, RITHENNAW_REFUSED_OBSERVER, NULL);
+    views("view for 256", &b, 256, OUT_LENGTH, RITHENNAW_REFUSED_OBSERVER, NULL);
+    views("view for 16 of no bytes", &empty, 16, 0, RITHENNAW_REFUSED_OBSERVER, NULL);
+    views("view of B cut by a byte", &cut, 0, OUT_LENGTH, RITHENNAW_REFUSED_SHORT, NULL);
+    views("view of no bytes", &empty, 0, 0, RITHENNAW_REFUSED_SHORT, NULL);
+    views("view of P5 for 0 into a byte too few", &p5_after, 0, p5_for_0.length - 1, RITHENNAW_REFUSED_OUTPUT, NULL);
 }
 
 static void try_sheet(void)
@@ -301,12 +301,12 @@ static void try_sheet(void)
     sheets("sheet of P2 for 0 into just enough", &p2, 0, enough, RITHENNAW_ACCEPTED, of_p2);
     sheets("sheet of P5 for 0", &p5_after, 0, RITHENNAW_SHEET_MAX, RITHENNAW_ACCEPTED, of_p5_for_0);
     sheets("sheet of P5 for 2", &p5_after, 2, RITHENNAW_SHEET_MAX, RITHENNAW_ACCEPTED, of_p2);
-    sheets("sheet for 16", &p2, 16, OUT_LENGTH, RITHENNAW_OBSERVER, "");
-    sheets("sheet for 256", &p2, 256, OUT_LENGTH, RITHENNAW_OBSERVER, "");
-    sheets("sheet for 16 of no bytes", &empty, 16, 0, RITHENNAW_OBSERVER, "");
-    sheets("sheet of B cut by a byte", &cut, 0, OUT_LENGTH, RITHENNAW_SHORT, "");
-    sheets("sheet of no bytes", &empty, 0, 0, RITHENNAW_SHORT, "");
-    sheets("sheet of P2 for 0 into a byte too few", &p2, 0, enough - 1, RITHENNAW_OUTPUT, "");
+    sheets("sheet for 16", &p2, 16, OUT_LENGTH, RITHENNAW_REFUSED_OBSERVER, "");
+    sheets("sheet for 256", &p2, 256, OUT_LENGTH, RITHENNAW_REFUSED_OBSERVER, "");
+    sheets("sheet for 16 of no bytes", &empty, 16, 0, RITHENNAW_REFUSED_OBSERVER, "");
+    sheets("sheet of B cut by a byte", &cut, 0, OUT_LENGTH, RITHENNAW_REFUSED_SHORT, "");
+    sheets("sheet of no bytes", &empty, 0, 0, RITHENNAW_REFUSED_SHORT, "");
+    sheets("sheet of P2 for 0 into a byte too few", &p2, 0, enough - 1, RITHENNAW_REFUSED_OUTPUT, "");
 }
 
 int main(void)

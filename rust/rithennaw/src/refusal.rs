@@ -1,18 +1,18 @@
-//! The thirteen refusals, with the scope document's words and numbers.
+//! The thirteen refusals: the scope document's words and numbers, and the sentences of include/rithennaw.h.
 
 use crate::OutOfRange;
 use std::{error, fmt};
 
-/// Makes `Refusal` of the scope document's table: number, word and condition of each.
+/// Makes `Refusal` of a table: number, word and sentence of each.
 macro_rules! refusals {
-    ($($name:ident = $number:literal, $word:literal, $condition:literal;)*) => {
+    ($($name:ident = $number:literal, $word:literal, $text:literal;)*) => {
         /// Why a call was refused: the first rule that is broken. The words and the numbers are the scope document's. A
         /// later edition may have more of them.
         #[non_exhaustive]
         #[derive(Debug, Clone, Copy, PartialEq, Eq, Hash)]
         #[repr(u8)]
         pub enum Refusal {
-            $(#[doc = concat!("Number ", $number, ": ", $condition, ".")] $name = $number,)*
+            $(#[doc = concat!("Number ", $number, ". ", $text)] $name = $number,)*
         }
 
         impl Refusal {
@@ -24,28 +24,29 @@ macro_rules! refusals {
                 match self { $(Refusal::$name => $word,)* }
             }
 
-            /// The condition in plain words, such as `bytes after slot 15`.
-            pub const fn condition(self) -> &'static str {
-                match self { $(Refusal::$name => $condition,)* }
+            /// The sentence for it, as `rithennaw_refusal_text` of the C header gives it, such as `There are bytes after
+            /// slot 15.`
+            pub const fn text(self) -> &'static str {
+                match self { $(Refusal::$name => $text,)* }
             }
         }
     };
 }
 
 refusals! {
-    Observer = 1, "observer", "the label asked for is above 15";
-    TurnLimit = 2, "turn limit", "more than 1,000,000 turns";
-    Short = 3, "short", "the image ends before the last byte of the field or part being read";
-    Version = 4, "version", "the first byte isn't 1";
-    ProgramLength = 5, "program length", "the program's length is no multiple of 4 from 4 to 1,024";
-    Instruction = 6, "instruction", "an instruction isn't in the table, or has an operand outside it";
-    TurnSlot = 7, "turn slot", "the turn slot is above 15";
-    RecordLength = 8, "record length", "a record's length is neither 0 nor 37 + 6 × k, k at most 64";
-    TaskField = 9, "task field", "a task's kind, label or place is out of range, or its slot + spare is above 15";
-    Mail = 10, "mail", "a message's label or sender is above 15, or a mailbox has five or more of one label";
-    Tail = 11, "tail", "bytes after slot 15";
-    Estate = 12, "estate", "a used slot lies in another task's spare";
-    Output = 13, "output", "the output is shorter than the answer";
+    Observer = 1, "observer", "The label asked for is above 15.";
+    TurnLimit = 2, "turn limit", "More than 1,000,000 turns were asked for.";
+    Short = 3, "short", "The image ends before the last byte of the field or part being read.";
+    Version = 4, "version", "The image's first byte, its version, isn't 1.";
+    ProgramLength = 5, "program length", "The program's length is no multiple of 4 from 4 to 1,024.";
+    Instruction = 6, "instruction", "An instruction isn't in the table, or has an operand outside it.";
+    TurnSlot = 7, "turn slot", "The turn slot is above 15.";
+    RecordLength = 8, "record length", "A record's length is neither 0 nor 37 + 6 * k, k at most 64.";
+    TaskField = 9, "task field", "A task's kind, label or place is out of range, or its slot + spare is above 15.";
+    Mail = 10, "mail", "A message's label or sender is above 15, or a mailbox has five or more of one label.";
+    Tail = 11, "tail", "There are bytes after slot 15.";
+    Estate = 12, "estate", "A used slot lies in another task's spare.";
+    Output = 13, "output", "The output is shorter than the answer.";
 }
 
 impl Refusal {
@@ -66,7 +67,7 @@ impl TryFrom<u8> for Refusal {
 
 impl fmt::Display for Refusal {
     fn fmt(&self, f: &mut fmt::Formatter<'_>) -> fmt::Result {
-        write!(f, "refused {} ({}): {}", self.number(), self.word(), self.condition())
+        write!(f, "refused {} ({}): {}", self.number(), self.word(), self.text())
     }
 }
 

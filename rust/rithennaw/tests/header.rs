@@ -1,4 +1,4 @@
-//! The constants and the numbers of refusals are those of include/rithennaw.h.
+//! The constants, and the numbers, words and sentences of refusals, are those of include/rithennaw.h.
 
 use rithennaw::{Refusal, IMAGE_MAX, IMAGE_MIN, SHEET_MAX, TURNS_MAX};
 use std::fs;
@@ -22,13 +22,39 @@ fn constants_are_the_headers() {
     assert_eq!(defined(&header, "TURNS_MAX"), Some(TURNS_MAX));
 }
 
+/// The numbers of the header's enum, in order: name, number, and the sentence in the comment ahead of it.
+fn listed(header: &str) -> Vec<(&str, u8, &str)> {
+    let lines: Vec<&str> = header.lines().map(str::trim).collect();
+    let listed = lines.windows(2).filter_map(|pair| {
+        let (name, number) = pair[1].strip_prefix("RITHENNAW_")?.trim_end_matches(',').split_once(" = ")?;
+        let sentence = pair[0].strip_prefix("/* ")?.strip_suffix(" */")?;
+        Some((name, number.parse().ok()?, sentence))
+    });
+    listed.collect()
+}
+
+/// The cases of `rithennaw_refusal_text`, in order: name and sentence.
+fn cases(header: &str) -> Vec<(&str, &str)> {
+    let cases = header.lines().filter_map(|line| {
+        let case = line.trim().strip_prefix("case RITHENNAW_")?.strip_suffix("\";")?;
+        case.split_once(": return \"")
+    });
+    cases.collect()
+}
+
 #[test]
-fn numbers_are_the_headers() {
+fn refusals_are_the_headers() {
     let header = header();
-    for refusal in Refusal::ALL {
-        let name = refusal.word().to_uppercase().replace(' ', "_");
-        let line = format!("RITHENNAW_{name} = {}", refusal.number());
-        let ends = |at: usize| header[at + line.len()..].starts_with(|c: char| !c.is_ascii_digit());
-        assert!(header.find(&line).is_some_and(ends), "no {line} in the header");
-    }
+    let names = Refusal::ALL.iter().map(|refusal| refusal.word().to_uppercase().replace(' ', "_"));
+    let names: Vec<String> = names.map(|name| format!("REFUSED_{name}")).collect();
+    let refusals = names.iter().zip(Refusal::ALL).map(|(name, refusal)| (&name[..], refusal.number(), refusal.text()));
+    let accepted = ("ACCEPTED", 0, "The call was accepted.");
+    assert_eq!(listed(&header), [accepted].into_iter().chain(refusals).collect::<Vec<_>>());
+}
+
+#[test]
+fn the_headers_function_returns_the_sentences_of_its_comments() {
+    let header = header();
+    let sentences: Vec<_> = listed(&header).into_iter().map(|(name, _, sentence)| (name, sentence)).collect();
+    assert_eq!(cases(&header), sentences);
 }

@@ -77,5 +77,5 @@ fn refusals_have_the_words_of_the_scope_document() {
     ];
     assert!(Refusal::ALL.iter().map(|refusal| refusal.word()).eq(words));
     let error: Box<dyn Error> = Refusal::Tail.into();
-    assert_eq!(error.to_string(), "refused 11 (tail): bytes after slot 15");
+    assert_eq!(error.to_string(), "refused 11 (tail): There are bytes after slot 15.");
 }
