@@ -113,9 +113,15 @@ static inline const char *rithennaw_refusal_text(uint8_t number)
 }
 
 /*
+ * The number of the image, by itself: 0 where it is accepted, so where every other call takes it. There is no output.
+ * Returns 0, or 3 to 12.
+ */
+uint8_t rithennaw_check(const uint8_t *image, size_t image_len);
+
+/*
  * Where the record of a slot stands in the image: its bytes, without the 2-byte length ahead of them, are the *length
  * bytes from image + *start on. Both are 0 where there is none: for an unused slot, a slot above 15 and a refused image.
- * There is no number; `rithennaw_rewrite` with out_len 0 returns that of a refused image, and 13 for an accepted one.
+ * There is no number; `rithennaw_check` returns the image's.
  */
 void rithennaw_record(const uint8_t *image, size_t image_len, uint32_t slot, size_t *start, size_t *length);
 

@@ -1,6 +1,7 @@
 /*
  * The archive linked into a C program: the scope document's image B, its examples P2, P3 and P5 and the sheet of P2 through
- * the header, every byte compared; a record's part; the refusals 1, 2, 3 and 13, which leave the output as it was.
+ * the header, every byte compared; a record's part; each refusal of an image, and the refusals 1, 2, 3 and 13 of calls that
+ * write, which leave the output as it was; the sentences of the numbers and the version.
  */
 #include <stdint.h>
 #include <stdio.h>
@@ -57,6 +58,7 @@ enum {
     SLOT_5_AT = SLOT_0_AT + 2 + 37 + 4 * 2,
     B_LENGTH = SLOT_5_AT + 2 + 37 + 10 * 2,
     /* in a slot, behind its 2-byte length: kind, label, spare, place, registers, messages */
+    SPARE_AT = 2 + 2,
     PLACE_AT = 2 + 3,
     REGISTERS_AT = 2 + 5,
     MAIL_AT = 2 + 37
@@ -186,6 +188,11 @@ static void sheets(const char *call, const struct image *image, uint32_t observe
     expect_answer(call, rithennaw_sheet(image->bytes, image->length, observer, out, room, &length), number, &text);
 }
 
+static void checks_as(const char *call, const struct image *image, unsigned number)
+{
+    expect_number(rithennaw_check(image->bytes, image->length), number, call, "the number");
+}
+
 static void record(const char *call, const struct image *image, uint32_t slot, size_t should_start,
                    size_t should_length)
 {
@@ -196,9 +203,9 @@ static void record(const char *call, const struct image *image, uint32_t slot, s
     expect_number(length, should_length, call, "the length");
 }
 
-/* ---- the images of the examples; `cut` is B without its last byte */
+/* ---- the images of the examples; `cut` is B without its last byte, `mail_16` has a message of a label above 15 */
 
-static struct image b, p2, p3, ended, p5, p5_after, p5_for_0, cut, empty;
+static struct image b, p2, p3, ended, p5, p5_after, p5_for_0, cut, mail_16, empty;
 
 static void make_images(void)
 {
@@ -206,6 +213,8 @@ static void make_images(void)
     expect_number(b.length, B_LENGTH, "B", "the length");
     cut = b;
     cut.length--;
+    mail_16 = b;
+    put_mail_700(&mail_16, 16);
 
     /* P2: after 1 turn slot 0 is at place 1, and slot 5 has the message. */
     p2 = b;
@@ -238,6 +247,33 @@ static void make_images(void)
 }
 
 /* ---- each function: accepted calls, then the refusals in the order of their numbers */
+
+/* The check of B with the byte at `at` changed. */
+static void checks_changed(const char *call, size_t at, unsigned byte, unsigned number)
+{
+    struct image changed = b;
+    changed.bytes[at] = (uint8_t)byte;
+    checks_as(call, &changed, number);
+}
+
+static void try_check(void)
+{
+    struct image longer = b;
+    put(&longer, 0);
+    checks_as("check of B", &b, RITHENNAW_ACCEPTED);
+    checks_as("check of P2", &p2, RITHENNAW_ACCEPTED);
+    checks_as("check of B cut by a byte", &cut, RITHENNAW_REFUSED_SHORT);
+    checks_as("check of no bytes", &empty, RITHENNAW_REFUSED_SHORT);
+    checks_changed("check of version 2", 0, 2, RITHENNAW_REFUSED_VERSION);
+    checks_changed("check of a program of 17 bytes", 2, 17, RITHENNAW_REFUSED_PROGRAM_LENGTH);
+    checks_changed("check of an instruction 13", 3, 13, RITHENNAW_REFUSED_INSTRUCTION);
+    checks_changed("check of turn slot 16", TURN_SLOT_AT, 16, RITHENNAW_REFUSED_TURN_SLOT);
+    checks_changed("check of a record of 38 bytes", SLOT_0_AT + 1, 38, RITHENNAW_REFUSED_RECORD_LENGTH);
+    checks_changed("check of kind 6", SLOT_0_AT + 2, 6, RITHENNAW_REFUSED_TASK_FIELD);
+    checks_as("check of a message of label 16", &mail_16, RITHENNAW_REFUSED_MAIL);
+    checks_as("check of B and a byte", &longer, RITHENNAW_REFUSED_TAIL);
+    checks_changed("check of slot 0 with spare 5", SLOT_0_AT + SPARE_AT, 5, RITHENNAW_REFUSED_ESTATE);
+}
 
 static void try_record(void)
 {
@@ -309,14 +345,49 @@ static void try_sheet(void)
     sheets("sheet of P2 for 0 into a byte too few", &p2, 0, enough - 1, RITHENNAW_REFUSED_OUTPUT, "");
 }
 
+/* ---- what the header has beside the archive's functions */
+
+/* The number's text is a sentence, and another one than those of the numbers below it. */
+static int has_own_sentence(unsigned number)
+{
+    const char *text = rithennaw_refusal_text((uint8_t)number);
+    unsigned below;
+    for (below = 0; below < number; below++) {
+        if (strcmp(text, rithennaw_refusal_text((uint8_t)below)) == 0) {
+            return 0;
+        }
+    }
+    return text[0] >= 'A' && text[0] <= 'Z' && text[strlen(text) - 1] == '.';
+}
+
+static void try_texts(void)
+{
+    unsigned number;
+    for (number = RITHENNAW_ACCEPTED; number <= RITHENNAW_REFUSED_OUTPUT; number++) {
+        expect(has_own_sentence(number), rithennaw_refusal_text((uint8_t)number));
+    }
+    expect(has_own_sentence(RITHENNAW_REFUSED_OUTPUT + 1), "a number that no call returns has no sentence of its own");
+    expect(strcmp(rithennaw_refusal_text(RITHENNAW_REFUSED_OUTPUT + 1), rithennaw_refusal_text(UINT8_MAX)) == 0,
+           "two numbers that no call returns have two sentences");
+}
+
+/* LIBRARY_VERSION is what the file VERSION has. */
+static void try_version(void)
+{
+    expect(strcmp(RITHENNAW_VERSION_STRING, LIBRARY_VERSION) == 0, "the version is not that of the file VERSION");
+}
+
 int main(void)
 {
     make_images();
+    try_check();
     try_record();
     try_rewrite();
     try_turns();
     try_view();
     try_sheet();
+    try_texts();
+    try_version();
     printf("b.c: %u checks, %u failed\n", checks, faults);
     return faults == 0 ? 0 : 1;
 }

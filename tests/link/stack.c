@@ -58,6 +58,11 @@ static void make_image(void)
 
 /* ---- the calls, each with its number */
 
+static unsigned check(void)
+{
+    return rithennaw_check(image, image_len);
+}
+
 static unsigned record(void)
 {
     rithennaw_record(image, image_len, 15, &start, &length);
@@ -121,7 +126,7 @@ int main(void)
     static const struct {
         const char *name;
         unsigned (*call)(void);
-    } calls[] = {{"turns", turns}, {"view", view}, {"sheet", sheet}, {"rewrite", rewrite}, {"record", record}};
+    } calls[] = {{"turns", turns}, {"view", view}, {"sheet", sheet}, {"rewrite", rewrite}, {"record", record}, {"check", check}};
     void *memory;
     size_t i;
     int status = 0;

@@ -17,15 +17,20 @@ pub enum Call {
 #[derive(Debug, Clone, Copy)]
 pub struct Implementation {
     pub name: &'static str,
+    pub check: fn(&[u8]) -> u8,
     pub call: fn(Call, &[u8], &mut [u8]) -> Answer,
     pub record: fn(&[u8], u32) -> Range<usize>,
 }
 
-pub const MONITOR: Implementation =
-    Implementation { name: "monitor", call: monitor_call, record: |image, slot| rithennaw::record_range(image, slot) };
+pub const MONITOR: Implementation = Implementation {
+    name: "monitor",
+    check: |image| rithennaw::check(image).map_or_else(Refusal::number, |()| 0),
+    call: monitor_call,
+    record: |image, slot| rithennaw::record_range(image, slot),
+};
 
 pub const REFERENCE: Implementation =
-    Implementation { name: "reference", call: reference_call, record: reference::record };
+    Implementation { name: "reference", check: reference::check, call: reference_call, record: reference::record };
 
 /// Both of them.
 pub const BOTH: [Implementation; 2] = [MONITOR, REFERENCE];

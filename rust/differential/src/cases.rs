@@ -59,6 +59,7 @@ fn calls(rng: &mut Rng) -> [Call; 4] {
 
 /// Every call of an accepted image with every output, and some records. Gives the image after the turns.
 fn accepted(comparison: &mut Comparison, rng: &mut Rng, image: &[u8]) -> Result<Vec<u8>, Mismatch> {
+    comparison.check(image)?;
     comparison.rewrite(rng, image)?;
     let mut after = image.to_vec();
     for call in calls(rng) {
@@ -70,7 +71,10 @@ fn accepted(comparison: &mut Comparison, rng: &mut Rng, image: &[u8]) -> Result<
         outputs(comparison, rng, call, image, agreed.answer.length)?;
         match call {
             Call::Turns(_) => after = agreed.bytes,
-            Call::View(_) => comparison.rewrite(rng, &agreed.bytes)?,
+            Call::View(_) => {
+                comparison.check(&agreed.bytes)?;
+                comparison.rewrite(rng, &agreed.bytes)?;
+            }
             Call::Rewrite | Call::Sheet(_) => {}
         }
     }
@@ -113,6 +117,7 @@ fn damaged(comparison: &mut Comparison, rng: &mut Rng, image: &Image, seed: u64)
 
 /// Every call of an image that may be refused, with an output that may be too short.
 fn each_call(comparison: &mut Comparison, rng: &mut Rng, image: &[u8]) -> Outcome {
+    comparison.check(image)?;
     for call in calls(rng) {
         let room = rng.pick(&[0, 40, image.len(), IMAGE_MAX]);
         comparison.call(rng, call, image, room)?;
@@ -140,6 +145,7 @@ fn sweep(comparison: &mut Comparison, rng: &mut Rng) -> Outcome {
         let byte = image[at];
         for value in [0, 1, 5, 6, 7, 8, 12, 13, 15, 16, 255, byte.wrapping_add(1), byte.wrapping_sub(1)] {
             changed[at] = value;
+            comparison.check(&changed)?;
             let calls = calls(rng);
             let call = rng.pick(&calls);
             comparison.call(rng, call, &changed, IMAGE_MAX)?;

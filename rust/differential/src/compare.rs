@@ -5,6 +5,7 @@ use crate::report::{hex, Mismatch, RecordOutcome, Tally};
 use crate::rng::Rng;
 use reference::Answer;
 use rithennaw::IMAGE_MAX;
+use std::fmt;
 
 /// Bytes ahead of the output and behind it that no call may touch.
 const AROUND: usize = 32;
@@ -74,28 +75,39 @@ impl Comparison {
         Err(self.mismatch("an accepted image is not given back", "Rewrite", image, [gave.clone(), gave]))
     }
 
+    /// Asks both for the image's number.
+    pub fn check(&mut self, image: &[u8]) -> Result<(), Mismatch> {
+        let number = self.ask("Check", image, |implementation, image| (implementation.check)(image))?;
+        self.tally.check(number);
+        Ok(())
+    }
+
     /// Asks both where the record of a slot stands.
     pub fn record(&mut self, image: &[u8], slot: u32) -> Result<(), Mismatch> {
-        let lent = image.to_vec();
-        let [first, second] = self.implementations.map(|implementation| (implementation.record)(&lent, slot));
-        self.tally.compared += 1;
-        if first != second || lent != image {
-            let parts = [first, second].map(|part| format!("{part:?}"));
-            return Err(self.mismatch(
-                "different parts, or the image has changed",
-                &format!("Record({slot})"),
-                image,
-                parts,
-            ));
-        }
-        let refused = reference::rewrite(image, &mut [0; IMAGE_MAX]).number != 0;
-        self.tally.record(match (first.is_empty(), refused, slot > 15) {
+        let call = format!("Record({slot})");
+        let part = self.ask(&call, image, |implementation, image| (implementation.record)(image, slot))?;
+        let refused = reference::check(image) != 0;
+        self.tally.record(match (part.is_empty(), refused, slot > 15) {
             (false, ..) => RecordOutcome::Found,
             (true, true, _) => RecordOutcome::RefusedImage,
             (true, false, true) => RecordOutcome::SlotAbove15,
             (true, false, false) => RecordOutcome::UnusedSlot,
         });
         Ok(())
+    }
+
+    /// Makes a call that writes nothing of both, and gives what both told.
+    fn ask<T: PartialEq + fmt::Debug>(
+        &mut self, call: &str, image: &[u8], ask: impl Fn(Implementation, &[u8]) -> T,
+    ) -> Result<T, Mismatch> {
+        let lent = image.to_vec();
+        let [first, second] = self.implementations.map(|implementation| ask(implementation, &lent));
+        self.tally.compared += 1;
+        if first == second && lent == image {
+            return Ok(first);
+        }
+        let told = [first, second].map(|told| format!("{told:?}"));
+        Err(self.mismatch("different answers, or the image has changed", call, image, told))
     }
 
     fn mismatch(&self, fault: &str, call: &str, image: &[u8], given: [String; 2]) -> Mismatch {

@@ -13,9 +13,9 @@ const EACH_MIN: u64 = 100;
 /// A call with at least so many busy turns is a long run.
 const LONG_RUN: u64 = 100_000;
 
-/// The calls that write, with the number that each may tell beside 0 and 3 to 13.
-const CALLS: [(&str, Option<usize>); 4] =
-    [("rewrite", None), ("turns", Some(2)), ("view", Some(1)), ("sheet", Some(1))];
+/// The calls that tell a number, with those that each may tell beside 0 and 3 to 12.
+const CALLS: [(&str, &[usize]); 5] =
+    [("rewrite", &[13]), ("turns", &[2, 13]), ("view", &[1, 13]), ("sheet", &[1, 13]), ("check", &[])];
 
 const NUMBERS: usize = 14;
 
@@ -76,7 +76,7 @@ pub struct Tally {
 }
 
 impl Tally {
-    /// Counts a call in which the two agreed, by what they told.
+    /// Counts a call that writes in which the two agreed, by what they told.
     pub fn call(&mut self, call: Call, answer: Answer) {
         let row = match call {
             Call::Rewrite => 0,
@@ -99,6 +99,11 @@ impl Tally {
         }
     }
 
+    /// Counts a check on which the two agreed, by the number that they told.
+    pub fn check(&mut self, number: u8) {
+        self.calls[4][usize::from(number)] += 1;
+    }
+
     /// Counts a call of which that holds.
     pub fn fact(&mut self, fact: Fact) {
         self.facts[fact as usize] += 1;
@@ -116,7 +121,7 @@ impl Tally {
         let facts = facts.map(|((name, least), _)| format!("{name}: fewer than {least} calls"));
         let cells = CALLS.iter().zip(&self.calls).flat_map(|(&(name, own), counts)| {
             counts.iter().enumerate().filter_map(move |(number, &count)| {
-                match number == 0 || number >= 3 || own == Some(number) {
+                match matches!(number, 0 | 3..=12) || own.contains(&number) {
                     true if count < EACH_MIN => Some(format!("{name} told {number} in fewer than {EACH_MIN} calls")),
                     false if count > 0 => Some(format!("{name} told {number}, which it never may")),
                     _ => None,

@@ -44,11 +44,20 @@ fn turns_give(image: &Image, count: u64, after: &Image, busy: u64) {
     both_give(Call::Turns(count), image, Ok((after.bytes(), busy)));
 }
 
+/// Both implementations tell that number of the image.
+fn both_check(image: &Image, number: u8) {
+    for implementation in BOTH {
+        assert_eq!((implementation.check)(&image.bytes()), number, "check of the {}", implementation.name);
+    }
+}
+
 fn accepted(image: &Image) {
+    both_check(image, 0);
     both_give(Call::Rewrite, image, Ok((image.bytes(), 0)));
 }
 
 fn refused(image: &Image, number: u8) {
+    both_check(image, number);
     both_give(Call::Rewrite, image, Err(number));
 }
 

@@ -5,6 +5,7 @@ use differential::compare::Comparison;
 use differential::secrecy_report::SecrecyTally;
 use differential::{cases, secrecy};
 use reference::Answer;
+use rithennaw::IMAGE_MIN;
 
 const SEEDS: u64 = 100;
 
@@ -85,6 +86,32 @@ fn an_accepted_image_that_both_refuse() {
     let both = wrong(|_, _, _| Answer { number: 3, length: 0, busy: 0 });
     let report = difference([both, both]).expect("a difference");
     assert!(report.starts_with("an accepted image is not given back"), "{report}");
+}
+
+/// A check that accepts the images that are refused with that number.
+fn accepting<const NUMBER: u8>(image: &[u8]) -> u8 {
+    let number = reference::check(image);
+    if number == NUMBER {
+        0
+    } else {
+        number
+    }
+}
+
+#[test]
+fn a_check_that_accepts_what_one_rule_refuses() {
+    let first: [fn(&[u8]) -> u8; 5] = [accepting::<3>, accepting::<4>, accepting::<5>, accepting::<6>, accepting::<7>];
+    let rest: [fn(&[u8]) -> u8; 5] =
+        [accepting::<8>, accepting::<9>, accepting::<10>, accepting::<11>, accepting::<12>];
+    for check in first.into_iter().chain(rest) {
+        found(Implementation { name: "wrong", check, ..REFERENCE });
+    }
+}
+
+#[test]
+fn a_check_that_refuses_the_shortest_image() {
+    let check = |image: &[u8]| if image.len() == IMAGE_MIN { 3 } else { reference::check(image) };
+    found(Implementation { name: "wrong", check, ..REFERENCE });
 }
 
 #[test]

@@ -1,7 +1,7 @@
 //! The made-up images are what they are made for: accepted ones, ones with a fault that leads to its number, and
 //! tasks that do what tasks may do.
 
-use differential::calls::{Call, BOTH};
+use differential::calls::BOTH;
 use differential::damage::FAULTS;
 use differential::images;
 use differential::instructions::OPERANDS;
@@ -12,7 +12,7 @@ use std::collections::BTreeSet;
 
 /// The number that both tell of an image.
 fn numbers(image: &[u8]) -> [u8; 2] {
-    BOTH.map(|implementation| (implementation.call)(Call::Rewrite, image, &mut [0; IMAGE_MAX]).number)
+    BOTH.map(|implementation| (implementation.check)(image))
 }
 
 fn made_up(seeds: u64) -> impl Iterator<Item = (Rng, Image)> {

@@ -7,10 +7,10 @@ fn differential(arguments: &[&str]) -> Output {
     Command::new(env!("CARGO_BIN_EXE_differential")).args(arguments).output().unwrap()
 }
 
-/// The calls in the printed counts: a line for each call that writes, and one of records, with commas.
+/// The calls in the printed counts: a line for each call that tells a number, and one of records, with commas.
 fn calls(printed: &str) -> u64 {
     let counts = printed.lines().flat_map(|line| match line.split_once(' ') {
-        Some(("rewrite" | "turns" | "view" | "sheet", counts)) => counts.split_whitespace().collect(),
+        Some(("rewrite" | "turns" | "view" | "sheet" | "check", counts)) => counts.split_whitespace().collect(),
         Some(("record:", counts)) => counts.split(", ").filter_map(|count| count.rsplit(' ').next()).collect(),
         _ => vec![],
     });

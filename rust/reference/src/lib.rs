@@ -37,6 +37,11 @@ pub struct Answer {
     pub busy: u64,
 }
 
+/// The image's number by itself: 0 where it is accepted.
+pub fn check(image: &[u8]) -> u8 {
+    read::read(image).map_or_else(Refusal::number, |_| 0)
+}
+
 /// Where a slot's record stands in the image; `0..0` for an unused slot, a slot number above 15
 /// or a refused image.
 pub fn record(image: &[u8], slot: u32) -> Range<usize> {

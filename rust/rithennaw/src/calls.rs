@@ -1,4 +1,5 @@
-//! The calls, each in two forms: one that allocates its answer, and one (`_into`) that writes into the caller's buffer.
+//! The calls. Those that write have two forms: one that allocates its answer, and one (`_into`) that writes into the
+//! caller's buffer.
 
 use crate::ffi::{self, Told};
 use crate::{Observer, Refusal, Slot, IMAGE_MAX, SHEET_MAX};
@@ -22,6 +23,14 @@ pub struct TurnedInto {
     pub busy: u64,
 }
 
+/// Whether the image is accepted, by itself: so whether every other call takes it.
+///
+/// # Errors
+/// Refusals 3 to 12.
+pub fn check(image: &[u8]) -> Result<(), Refusal> {
+    accepted(ffi::check(image))
+}
+
 /// The record of a slot: the part of the image that holds it. It is empty for an unused slot, a slot above 15 and a
 /// refused image.
 pub fn record(image: &[u8], slot: impl Into<Slot>) -> &[u8] {
@@ -34,7 +43,7 @@ pub fn record_range(image: &[u8], slot: impl Into<Slot>) -> Range<usize> {
     start..start.saturating_add(length)
 }
 
-/// The image again, as it was read: an accepted image gives its own bytes, so this is also the test of an image.
+/// The image again, as it was read: an accepted image gives its own bytes.
 ///
 /// # Errors
 /// Refusals 3 to 12.
@@ -117,10 +126,15 @@ fn allocated(room: usize, call: impl FnOnce(&mut [u8]) -> Result<usize, Refusal>
 
 /// What was told, or the refusal that its number names.
 fn outcome(told: Told) -> Result<TurnedInto, Refusal> {
-    if told.number == 0 {
-        return Ok(TurnedInto { length: told.length, busy: told.busy });
+    accepted(told.number).map(|()| TurnedInto { length: told.length, busy: told.busy })
+}
+
+/// The refusal that a number names; none for 0.
+fn accepted(number: u8) -> Result<(), Refusal> {
+    if number == 0 {
+        return Ok(());
     }
     // The archive's numbers are proved to be 0 to 13. Another one is no refusal of any input, and must not pass for
     // one.
-    Err(Refusal::try_from(told.number).unwrap_or_else(|_| unreachable!("librithennaw.a told {}", told.number)))
+    Err(Refusal::try_from(number).unwrap_or_else(|_| unreachable!("librithennaw.a told {number}")))
 }

@@ -5,6 +5,7 @@ mod archive {
 
     #[link(name = "rithennaw", kind = "static")]
     extern "C" {
+        pub fn rithennaw_check(image: *const u8, image_len: usize) -> u8;
         pub fn rithennaw_record(image: *const u8, image_len: usize, slot: u32, start: *mut usize, length: *mut usize);
         pub fn rithennaw_rewrite(
             image: *const u8, image_len: usize, out: *mut u8, out_len: usize, length: *mut usize,
@@ -32,6 +33,12 @@ pub struct Told {
     pub number: u8,
     pub length: usize,
     pub busy: u64,
+}
+
+/// The image's number.
+pub fn check(image: &[u8]) -> u8 {
+    // SAFETY: `image` is lent for reading its own length.
+    unsafe { archive::rithennaw_check(image.as_ptr(), image.len()) }
 }
 
 /// Where a slot's record stands: its start and its length.

@@ -64,7 +64,7 @@ mod refusal;
 mod slot;
 
 pub use calls::{
-    record, record_range, rewrite, rewrite_into, sheet, sheet_into, turns, turns_into, view, view_into, Turned,
+    check, record, record_range, rewrite, rewrite_into, sheet, sheet_into, turns, turns_into, view, view_into, Turned,
     TurnedInto,
 };
 pub use label::{Label, Observer};

@@ -1,9 +1,9 @@
-//! Every call in both forms: they agree, refuse what the scope document refuses, and take empty slices and extreme
-//! numbers.
+//! Every call, those that write in both forms: they agree, refuse what the scope document refuses, and take empty slices
+//! and extreme numbers.
 
 use rithennaw::{
-    record, record_range, rewrite, rewrite_into, sheet, sheet_into, turns, turns_into, view, view_into, Label, Refusal,
-    Turned, TurnedInto, IMAGE_MAX, IMAGE_MIN, TURNS_MAX,
+    check, record, record_range, rewrite, rewrite_into, sheet, sheet_into, turns, turns_into, view, view_into, Label,
+    Refusal, Turned, TurnedInto, IMAGE_MAX, IMAGE_MIN, TURNS_MAX,
 };
 
 /// The image of a text whose form is right.
@@ -49,6 +49,7 @@ fn agree<T>(allocated: &[u8], call: impl Fn(&mut [u8]) -> Result<T, Refusal>, to
 fn both_forms_agree_on_an_accepted_image() {
     let image = sender_and_receiver();
     let sent = turns(&image, 1).unwrap();
+    assert_eq!((check(&image), check(&sent.image)), (Ok(()), Ok(())));
     assert_eq!((sent.image.len(), sent.busy), (image.len() + 6, 1));
     agree(&rewrite(&image).unwrap(), |out| rewrite_into(&image, out), |length| length);
     agree(&sent.image, |out| turns_into(&image, 1, out), |told: TurnedInto| told.length);
@@ -77,6 +78,7 @@ fn a_record_is_a_part_of_the_image() {
 fn the_shortest_image_is_taken_by_every_call() {
     let image = image("program\n end 0 0 0");
     assert_eq!(image.len(), IMAGE_MIN);
+    assert_eq!(check(&image), Ok(()));
     assert_eq!(rewrite(&image).as_ref(), Ok(&image));
     assert_eq!(turns(&image, 0), Ok(Turned { image: image.clone(), busy: 0 }));
     assert_eq!(view(&image, 0).as_ref(), Ok(&image));
@@ -93,6 +95,7 @@ fn refused(image: &[u8], refusal: Refusal) {
         assert_eq!(sheet_into(image, 0, &mut out), Err(refusal));
         assert!(out.iter().all(|&byte| byte == 0xa5), "a refused call wrote");
     }
+    assert_eq!(check(image), Err(refusal));
     assert_eq!(rewrite(image), Err(refusal));
     assert_eq!(turns(image, TURNS_MAX), Err(refusal));
     assert_eq!(view(image, Label::TOP), Err(refusal));

@@ -1,7 +1,7 @@
 //! One image for each number and the order in which they are given.
 
 use super::{after, b, image, mail, END, ROOM, UNTOUCHED};
-use crate::{record, rewrite, sheet, turns, view, Answer};
+use crate::{check, record, rewrite, sheet, turns, view, Answer};
 use layout::{Image, Task};
 
 /// What a refused call tells.
@@ -11,6 +11,7 @@ fn refused(number: u8) -> Answer {
 
 /// Every call that reads this image refuses it with this number and writes nothing.
 fn assert_refused(bytes: &[u8], number: u8) {
+    assert_eq!(check(bytes), number);
     let expected = refused(number);
     let mut out = [UNTOUCHED; ROOM];
     assert_eq!(rewrite(bytes, &mut out), expected);
@@ -88,7 +89,7 @@ fn instructions_outside_the_table_are_6_and_others_accepted() {
             let no_size = code == SANDBOX && instruction[3] == 0;
             let number = if u16::from(byte) < limits[operand] && !no_size { 0 } else { 6 };
             let bytes = image(&[END, instruction], &[]).bytes();
-            assert_eq!(rewrite(&bytes, &mut [0; ROOM]).number, number, "{instruction:?}");
+            assert_eq!(check(&bytes), number, "{instruction:?}");
         }
     }
 }
@@ -225,4 +226,5 @@ fn tail_comes_ahead_of_estate_and_estate_ahead_of_output() {
     assert_refused(&[image.bytes(), vec![0]].concat(), 11);
     assert_eq!(rewrite(&image.bytes(), &mut []).number, 12);
     assert_eq!(rewrite(&b().bytes(), &mut []).number, 13);
+    assert_eq!(check(&b().bytes()), 0);
 }
