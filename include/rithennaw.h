@@ -13,6 +13,9 @@
  * out_len bytes, `start`, `length` and `busy` for writing one number at its alignment. None may be null, also where the
  * length beside it is 0; nothing is read or written through it then. What `out`, `start`, `length` and `busy` point to
  * beforehand does not matter. The image, the output and the numbers pointed to must not overlap, one with another.
+ * Where RITHENNAW_DEBUG is defined ahead of this header, each call first asserts, by assert.h, that no pointer is null, that
+ * the numbers are aligned and that nothing overlaps. It is an aid to find such faults and no proof that there are none:
+ * whether memory is valid, and the image's bytes set, cannot be seen at run time.
  *
  * Threads and memory. There are no globals, nothing is allocated and nothing is kept between calls. Any number of threads
  * may call at a time, also on one image, as long as no thread writes what another call is lent, or reads what it may write.
@@ -26,6 +29,9 @@
 
 #include <stddef.h>
 #include <stdint.h>
+#ifdef RITHENNAW_DEBUG
+#include <assert.h>
+#endif
 
 #ifdef __cplusplus
 extern "C" {
@@ -78,9 +84,9 @@ enum rithennaw_number {
     RITHENNAW_REFUSED_TURN_SLOT = 7,
     /* A record's length is neither 0 nor 37 + 6 * k, k at most 64. */
     RITHENNAW_REFUSED_RECORD_LENGTH = 8,
-    /* A task's kind, label or place is out of range, or its slot + spare is above 15. */
+    /* A task's kind, label or place is out of range, or slot + spare is above 15. */
     RITHENNAW_REFUSED_TASK_FIELD = 9,
-    /* A message's label or sender is above 15, or a mailbox has five or more of one label. */
+    /* A message's label or sender is above 15, or five or more are of one label. */
     RITHENNAW_REFUSED_MAIL = 10,
     /* There are bytes after slot 15. */
     RITHENNAW_REFUSED_TAIL = 11,
@@ -103,8 +109,8 @@ static inline const char *rithennaw_refusal_text(uint8_t number)
     case RITHENNAW_REFUSED_INSTRUCTION: return "An instruction isn't in the table, or has an operand outside it.";
     case RITHENNAW_REFUSED_TURN_SLOT: return "The turn slot is above 15.";
     case RITHENNAW_REFUSED_RECORD_LENGTH: return "A record's length is neither 0 nor 37 + 6 * k, k at most 64.";
-    case RITHENNAW_REFUSED_TASK_FIELD: return "A task's kind, label or place is out of range, or its slot + spare is above 15.";
-    case RITHENNAW_REFUSED_MAIL: return "A message's label or sender is above 15, or a mailbox has five or more of one label.";
+    case RITHENNAW_REFUSED_TASK_FIELD: return "A task's kind, label or place is out of range, or slot + spare is above 15.";
+    case RITHENNAW_REFUSED_MAIL: return "A message's label or sender is above 15, or five or more are of one label.";
     case RITHENNAW_REFUSED_TAIL: return "There are bytes after slot 15.";
     case RITHENNAW_REFUSED_ESTATE: return "A used slot lies in another task's spare.";
     case RITHENNAW_REFUSED_OUTPUT: return "The output is shorter than the answer.";
@@ -159,6 +165,109 @@ uint8_t rithennaw_view(const uint8_t *image, size_t image_len, uint32_t observer
  */
 uint8_t rithennaw_sheet(const uint8_t *image, size_t image_len, uint32_t observer, uint8_t *out, size_t out_len,
                         size_t *length);
+
+/*
+ * The debug aid: the name of each function above is made to stand for one that asserts first and then calls it. Where NDEBUG
+ * is defined too, there is nothing to assert, and the names stay as they are.
+ */
+#if defined RITHENNAW_DEBUG && !defined NDEBUG
+
+/* Behind a byte a number stands as far as its alignment is. */
+struct rithennaw_debug_size {
+    char byte;
+    size_t number;
+};
+struct rithennaw_debug_count {
+    char byte;
+    uint64_t number;
+};
+
+static inline int rithennaw_debug_aligned(const void *number, size_t alignment)
+{
+    return (uintptr_t)number % alignment == 0;
+}
+
+/* Whether two parts of memory have no byte in common. An empty part has none, wherever it is. */
+static inline int rithennaw_debug_apart(const void *one, size_t one_len, const void *other, size_t other_len)
+{
+    const uintptr_t a = (uintptr_t)one, b = (uintptr_t)other;
+    return one_len == 0 || other_len == 0 || (a < b ? b - a >= one_len : a - b >= other_len);
+}
+
+/* What every call that writes is lent. */
+static inline void rithennaw_debug_lent(const uint8_t *image, size_t image_len, const uint8_t *out, size_t out_len,
+                                        const size_t *length)
+{
+    assert(image != NULL);
+    assert(out != NULL);
+    assert(length != NULL);
+    assert(rithennaw_debug_aligned(length, offsetof(struct rithennaw_debug_size, number)));
+    assert(rithennaw_debug_apart(image, image_len, out, out_len));
+    assert(rithennaw_debug_apart(image, image_len, length, sizeof *length));
+    assert(rithennaw_debug_apart(out, out_len, length, sizeof *length));
+}
+
+static inline uint8_t rithennaw_debug_check(const uint8_t *image, size_t image_len)
+{
+    assert(image != NULL);
+    return rithennaw_check(image, image_len);
+}
+
+static inline void rithennaw_debug_record(const uint8_t *image, size_t image_len, uint32_t slot, size_t *start,
+                                          size_t *length)
+{
+    assert(image != NULL);
+    assert(start != NULL);
+    assert(length != NULL);
+    assert(rithennaw_debug_aligned(start, offsetof(struct rithennaw_debug_size, number)));
+    assert(rithennaw_debug_aligned(length, offsetof(struct rithennaw_debug_size, number)));
+    assert(rithennaw_debug_apart(image, image_len, start, sizeof *start));
+    assert(rithennaw_debug_apart(image, image_len, length, sizeof *length));
+    assert(rithennaw_debug_apart(start, sizeof *start, length, sizeof *length));
+    rithennaw_record(image, image_len, slot, start, length);
+}
+
+static inline uint8_t rithennaw_debug_rewrite(const uint8_t *image, size_t image_len, uint8_t *out, size_t out_len,
+                                              size_t *length)
+{
+    rithennaw_debug_lent(image, image_len, out, out_len, length);
+    return rithennaw_rewrite(image, image_len, out, out_len, length);
+}
+
+static inline uint8_t rithennaw_debug_turns(const uint8_t *image, size_t image_len, uint64_t count, uint8_t *out,
+                                            size_t out_len, size_t *length, uint64_t *busy)
+{
+    rithennaw_debug_lent(image, image_len, out, out_len, length);
+    assert(busy != NULL);
+    assert(rithennaw_debug_aligned(busy, offsetof(struct rithennaw_debug_count, number)));
+    assert(rithennaw_debug_apart(image, image_len, busy, sizeof *busy));
+    assert(rithennaw_debug_apart(out, out_len, busy, sizeof *busy));
+    assert(rithennaw_debug_apart(length, sizeof *length, busy, sizeof *busy));
+    return rithennaw_turns(image, image_len, count, out, out_len, length, busy);
+}
+
+static inline uint8_t rithennaw_debug_view(const uint8_t *image, size_t image_len, uint32_t observer, uint8_t *out,
+                                           size_t out_len, size_t *length)
+{
+    rithennaw_debug_lent(image, image_len, out, out_len, length);
+    return rithennaw_view(image, image_len, observer, out, out_len, length);
+}
+
+static inline uint8_t rithennaw_debug_sheet(const uint8_t *image, size_t image_len, uint32_t observer, uint8_t *out,
+                                            size_t out_len, size_t *length)
+{
+    rithennaw_debug_lent(image, image_len, out, out_len, length);
+    return rithennaw_sheet(image, image_len, observer, out, out_len, length);
+}
+
+#define rithennaw_check rithennaw_debug_check
+#define rithennaw_record rithennaw_debug_record
+#define rithennaw_rewrite rithennaw_debug_rewrite
+#define rithennaw_turns rithennaw_debug_turns
+#define rithennaw_view rithennaw_debug_view
+#define rithennaw_sheet rithennaw_debug_sheet
+
+#endif
 
 #ifdef __cplusplus
 }

@@ -126,7 +126,8 @@ int main(void)
     static const struct {
         const char *name;
         unsigned (*call)(void);
-    } calls[] = {{"turns", turns}, {"view", view}, {"sheet", sheet}, {"rewrite", rewrite}, {"record", record}, {"check", check}};
+    } calls[] = {{"turns", turns}, {"view", view}, {"sheet", sheet},
+                 {"rewrite", rewrite}, {"record", record}, {"check", check}};
     void *memory;
     size_t i;
     int status = 0;

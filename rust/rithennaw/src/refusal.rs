@@ -42,8 +42,8 @@ refusals! {
     Instruction = 6, "instruction", "An instruction isn't in the table, or has an operand outside it.";
     TurnSlot = 7, "turn slot", "The turn slot is above 15.";
     RecordLength = 8, "record length", "A record's length is neither 0 nor 37 + 6 * k, k at most 64.";
-    TaskField = 9, "task field", "A task's kind, label or place is out of range, or its slot + spare is above 15.";
-    Mail = 10, "mail", "A message's label or sender is above 15, or a mailbox has five or more of one label.";
+    TaskField = 9, "task field", "A task's kind, label or place is out of range, or slot + spare is above 15.";
+    Mail = 10, "mail", "A message's label or sender is above 15, or five or more are of one label.";
     Tail = 11, "tail", "There are bytes after slot 15.";
     Estate = 12, "estate", "A used slot lies in another task's spare.";
     Output = 13, "output", "The output is shorter than the answer.";

@@ -1,0 +1,242 @@
+/*
+ * The header's debug aid. With RITHENNAW_DEBUG, calls that are lent what the header asks for tell what they tell without it,
+ * and each fault that the aid can see ends a child process by SIGABRT, with the assertion that names it. C99 and C++11.
+ */
+#define _XOPEN_SOURCE 700
+#include <signal.h>
+#include <stdio.h>
+#include <string.h>
+#include <sys/resource.h>
+#include <sys/types.h>
+#include <sys/wait.h>
+#include <unistd.h>
+
+#define RITHENNAW_DEBUG
+#include "rithennaw.h"
+
+/* ---- checks: each is counted, and one that fails is named */
+
+static unsigned checks, faults;
+
+static void expect(int holds, const char *call, const char *what)
+{
+    checks++;
+    if (!holds) {
+        faults++;
+        fprintf(stderr, "debug.c: %s: %s\n", call, what);
+    }
+}
+
+/* ---- what is lent: places in one part of memory and lengths, side by side with no byte between them */
+
+enum field { IMAGE, IMAGE_LEN, OUT, OUT_LEN, LENGTH, BUSY, START, FIELDS };
+
+struct lent {
+    int field[FIELDS];
+};
+
+static union {
+    uint8_t bytes[256];
+    uint64_t aligned;
+} memory;
+
+/* The shortest image, an output of as many bytes, and the numbers. FREE is a place behind them, NOWHERE the null pointer. */
+enum {
+    SHORTEST = RITHENNAW_IMAGE_MIN,
+    LENGTH_AT = 2 * SHORTEST,
+    BUSY_AT = LENGTH_AT + sizeof(size_t),
+    START_AT = BUSY_AT + sizeof(uint64_t),
+    FREE = START_AT + sizeof(size_t),
+    NOWHERE = -1
+};
+static const struct lent good = {{0, SHORTEST, SHORTEST, SHORTEST, LENGTH_AT, BUSY_AT, START_AT}};
+
+/* What is lent, with one field changed. */
+static struct lent with(struct lent lent, enum field field, int value)
+{
+    lent.field[field] = value;
+    return lent;
+}
+
+static void *place(const struct lent *lent, enum field field)
+{
+    return lent->field[field] == NOWHERE ? NULL : memory.bytes + lent->field[field];
+}
+
+/* A program of one instruction, end, and no task. */
+static void make_image(void)
+{
+    static const uint8_t head[4] = {1, 0, 4, 0};
+    memset(memory.bytes, 0, sizeof memory.bytes);
+    memcpy(memory.bytes, head, sizeof head);
+}
+
+/* ---- the calls, each with its number */
+
+static unsigned check(const struct lent *lent)
+{
+    return rithennaw_check((uint8_t *)place(lent, IMAGE), (size_t)lent->field[IMAGE_LEN]);
+}
+
+static unsigned record(const struct lent *lent)
+{
+    rithennaw_record((uint8_t *)place(lent, IMAGE), (size_t)lent->field[IMAGE_LEN], 0, (size_t *)place(lent, START),
+                     (size_t *)place(lent, LENGTH));
+    return 0;
+}
+
+static unsigned rewrite(const struct lent *lent)
+{
+    return rithennaw_rewrite((uint8_t *)place(lent, IMAGE), (size_t)lent->field[IMAGE_LEN], (uint8_t *)place(lent, OUT),
+                             (size_t)lent->field[OUT_LEN], (size_t *)place(lent, LENGTH));
+}
+
+static unsigned turns(const struct lent *lent)
+{
+    return rithennaw_turns((uint8_t *)place(lent, IMAGE), (size_t)lent->field[IMAGE_LEN], 16, (uint8_t *)place(lent, OUT),
+                           (size_t)lent->field[OUT_LEN], (size_t *)place(lent, LENGTH), (uint64_t *)place(lent, BUSY));
+}
+
+static unsigned view(const struct lent *lent)
+{
+    return rithennaw_view((uint8_t *)place(lent, IMAGE), (size_t)lent->field[IMAGE_LEN], 15, (uint8_t *)place(lent, OUT),
+                          (size_t)lent->field[OUT_LEN], (size_t *)place(lent, LENGTH));
+}
+
+static unsigned sheet(const struct lent *lent)
+{
+    return rithennaw_sheet((uint8_t *)place(lent, IMAGE), (size_t)lent->field[IMAGE_LEN], 15, (uint8_t *)place(lent, OUT),
+                           (size_t)lent->field[OUT_LEN], (size_t *)place(lent, LENGTH));
+}
+
+/* The calls that write stand last. */
+static const struct {
+    const char *name;
+    unsigned (*make)(const struct lent *lent);
+} calls[] = {{"check", check}, {"record", record}, {"rewrite", rewrite}, {"turns", turns}, {"view", view}, {"sheet", sheet}};
+enum { CHECK = 1, RECORD = 2, WRITING = 4 + 8 + 16 + 32, TURNS = 8, CALLS = 6 };
+
+/* ---- calls as the header asks for them */
+
+/* Each of those calls tells that number. */
+static void passes(const char *what, unsigned which, struct lent lent, unsigned number)
+{
+    unsigned i;
+    for (i = 0; i < CALLS; i++) {
+        if ((which >> i & 1) != 0) {
+            make_image();
+            expect(calls[i].make(&lent) == number, calls[i].name, what);
+        }
+    }
+}
+
+static void try_good(void)
+{
+    size_t evaluated = 0;
+    uint8_t (*by_pointer)(const uint8_t *, size_t) = rithennaw_check;
+    passes("parts that touch", CHECK | RECORD | WRITING, good, RITHENNAW_ACCEPTED);
+    passes("an output ahead of the image, which is all 0", WRITING, with(with(good, OUT, 0), IMAGE, SHORTEST),
+           RITHENNAW_REFUSED_VERSION);
+    passes("an empty output amid the image", WRITING, with(with(good, OUT, 8), OUT_LEN, 0), RITHENNAW_REFUSED_OUTPUT);
+    passes("an empty image amid the output", WRITING, with(with(good, IMAGE, SHORTEST + 8), IMAGE_LEN, 0),
+           RITHENNAW_REFUSED_SHORT);
+    make_image();
+    expect(turns(&good) == 0 && memcmp(memory.bytes, memory.bytes + SHORTEST, SHORTEST) == 0, "turns",
+           "the image after 16 turns without a task");
+    expect(rithennaw_check(memory.bytes + evaluated++, SHORTEST) == RITHENNAW_ACCEPTED && evaluated == 1, "check",
+           "arguments are evaluated once");
+    expect(by_pointer == rithennaw_debug_check, "check", "a pointer to a call points to the one that asserts");
+}
+
+/* ---- faults */
+
+/* Whether the call is aborted in a child process, which says the assertion on standard error. */
+static int is_aborted(unsigned (*make)(const struct lent *lent), const struct lent *lent, const char *assertion)
+{
+    char said[1024];
+    size_t said_len = 0;
+    ssize_t part;
+    int ends[2], status;
+    pid_t child;
+    if (pipe(ends) != 0 || (child = fork()) < 0) {
+        return 0;
+    }
+    if (child == 0) {
+        dup2(ends[1], STDERR_FILENO);
+        make(lent);
+        _exit(0);
+    }
+    close(ends[1]);
+    while ((part = read(ends[0], said + said_len, sizeof said - 1 - said_len)) > 0) {
+        said_len += (size_t)part;
+    }
+    said[said_len] = '\0';
+    close(ends[0]);
+    return waitpid(child, &status, 0) == child && WIFSIGNALED(status) && WTERMSIG(status) == SIGABRT
+           && strstr(said, assertion) != NULL;
+}
+
+/* Each of those calls is aborted. */
+static void aborts(const char *assertion, unsigned which, struct lent lent)
+{
+    unsigned i;
+    for (i = 0; i < CALLS; i++) {
+        if ((which >> i & 1) != 0) {
+            make_image();
+            expect(is_aborted(calls[i].make, &lent, assertion), calls[i].name, assertion);
+        }
+    }
+}
+
+static void try_null(void)
+{
+    aborts("image != NULL", CHECK | RECORD | WRITING, with(good, IMAGE, NOWHERE));
+    aborts("out != NULL", WRITING, with(good, OUT, NOWHERE));
+    aborts("length != NULL", RECORD | WRITING, with(good, LENGTH, NOWHERE));
+    aborts("start != NULL", RECORD, with(good, START, NOWHERE));
+    aborts("busy != NULL", TURNS, with(good, BUSY, NOWHERE));
+}
+
+static void try_alignment(void)
+{
+    aborts("rithennaw_debug_aligned(length,", RECORD | WRITING, with(good, LENGTH, FREE + 1));
+    aborts("rithennaw_debug_aligned(start,", RECORD, with(good, START, FREE + 4));
+    aborts("rithennaw_debug_aligned(busy,", TURNS, with(good, BUSY, FREE + 4));
+}
+
+/* The same place, and the last or the first byte alone in common. */
+static void try_overlap(void)
+{
+    const char *image_out = "rithennaw_debug_apart(image, image_len, out, out_len)";
+    const char *image_length = "rithennaw_debug_apart(image, image_len, length, sizeof *length)";
+    const char *out_length = "rithennaw_debug_apart(out, out_len, length, sizeof *length)";
+    const char *image_start = "rithennaw_debug_apart(image, image_len, start, sizeof *start)";
+    const char *start_length = "rithennaw_debug_apart(start, sizeof *start, length, sizeof *length)";
+    const char *image_busy = "rithennaw_debug_apart(image, image_len, busy, sizeof *busy)";
+    const char *out_busy = "rithennaw_debug_apart(out, out_len, busy, sizeof *busy)";
+    const char *length_busy = "rithennaw_debug_apart(length, sizeof *length, busy, sizeof *busy)";
+    aborts(image_out, WRITING, with(good, OUT, 0));
+    aborts(image_out, WRITING, with(good, OUT, SHORTEST - 1));
+    aborts(image_out, WRITING, with(good, IMAGE, 2 * SHORTEST - 1));
+    aborts(image_length, RECORD | WRITING, with(good, LENGTH, 0));
+    aborts(image_length, RECORD | WRITING, with(with(with(good, LENGTH, 0), IMAGE, 7), IMAGE_LEN, 1));
+    aborts(out_length, WRITING, with(good, LENGTH, SHORTEST));
+    aborts(out_length, WRITING, with(good, OUT_LEN, SHORTEST + 1));
+    aborts(image_start, RECORD, with(good, START, 0));
+    aborts(start_length, RECORD, with(good, START, LENGTH_AT));
+    aborts(image_busy, TURNS, with(good, BUSY, 0));
+    aborts(out_busy, TURNS, with(good, BUSY, SHORTEST));
+    aborts(length_busy, TURNS, with(good, BUSY, LENGTH_AT));
+}
+
+int main(void)
+{
+    const struct rlimit no_core = {0, 0};
+    setrlimit(RLIMIT_CORE, &no_core);
+    try_good();
+    try_null();
+    try_alignment();
+    try_overlap();
+    printf("debug.c: %u checks, %u failed\n", checks, faults);
+    return faults == 0 ? 0 : 1;
+}
