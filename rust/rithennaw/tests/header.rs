@@ -1,16 +1,26 @@
-//! The constants, and the numbers, words and sentences of refusals, are those of include/rithennaw.h.
+//! The constants, and the numbers, words and sentences of refusals, are those of include/rithennaw.h; the header's limits
+//! are those of the definitions.
 
-use rithennaw::{Refusal, IMAGE_MAX, IMAGE_MIN, SHEET_MAX, TURNS_MAX};
+use rithennaw::{Label, Refusal, Slot, IMAGE_MAX, IMAGE_MIN, SHEET_MAX, TURNS_MAX};
 use std::fs;
 
+/// A file of the repository.
+fn file(path: &str) -> String {
+    fs::read_to_string(format!("{}/../../{path}", env!("CARGO_MANIFEST_DIR"))).unwrap()
+}
+
 fn header() -> String {
-    fs::read_to_string(concat!(env!("CARGO_MANIFEST_DIR"), "/../../include/rithennaw.h")).unwrap()
+    file("include/rithennaw.h")
+}
+
+/// The number behind these words, which begin a line.
+fn behind(text: &str, words: &str) -> Option<u64> {
+    text.lines().find_map(|line| line.strip_prefix(words))?.trim_end_matches(';').parse().ok()
 }
 
 /// The number that the header defines under a name.
 fn defined(header: &str, name: &str) -> Option<u64> {
-    let value = header.lines().find_map(|line| line.strip_prefix(&format!("#define RITHENNAW_{name} ")))?;
-    value.trim().parse().ok()
+    behind(header, &format!("#define RITHENNAW_{name} "))
 }
 
 #[test]
@@ -20,6 +30,29 @@ fn constants_are_the_headers() {
     assert_eq!(defined(&header, "IMAGE_MAX"), Some(IMAGE_MAX as u64));
     assert_eq!(defined(&header, "SHEET_MAX"), Some(SHEET_MAX as u64));
     assert_eq!(defined(&header, "TURNS_MAX"), Some(TURNS_MAX));
+    assert_eq!(defined(&header, "OBSERVER_MAX"), Some(u8::from(Label::TOP).into()));
+    assert_eq!(defined(&header, "SLOT_MAX"), Slot::all().last().map(|slot| slot.number().into()));
+}
+
+#[test]
+fn the_headers_limits_are_the_definitions() {
+    let header = header();
+    let limits = file("crates/machine/specs/Limits.antt");
+    let names = [
+        ("IMAGE_MIN", "shortestImage"),
+        ("IMAGE_MAX", "longestImage"),
+        ("TURNS_MAX", "turnLimit"),
+        ("OBSERVER_MAX", "highestLabel"),
+        ("SLOT_MAX", "highestSlot"),
+    ];
+    for (name, definition) in names {
+        let limit = behind(&limits, &format!("{definition} = "));
+        assert!(limit.is_some(), "{definition}");
+        assert_eq!(defined(&header, name), limit, "{name}");
+    }
+    let sheet = behind(&file("crates/sheet/src/lib.rt"), "pub const SHEET_MAX: usize = ");
+    assert!(sheet.is_some());
+    assert_eq!(defined(&header, "SHEET_MAX"), sheet);
 }
 
 /// The numbers of the header's enum, in order: name, number, and the sentence in the comment ahead of it.
