@@ -37,7 +37,7 @@
 extern "C" {
 #endif
 
-/* The version of the library, as numbers and as text: "0.1.0". An image has a version of its own, its first byte. */
+/* The version of the library: its three numbers, and text with points between them. An image's version is its first byte. */
 #define RITHENNAW_VERSION_MAJOR 0
 #define RITHENNAW_VERSION_MINOR 1
 #define RITHENNAW_VERSION_PATCH 0
@@ -119,7 +119,8 @@ static inline const char *rithennaw_refusal_text(uint8_t number)
 }
 
 /*
- * The number of the image, by itself: 0 where it is accepted, so where every other call takes it. There is no output.
+ * The number of the image, by itself: 0 where it is accepted. No other call then refuses it but for its own arguments, with
+ * 1, 2 or 13. There is no output.
  * Returns 0, or 3 to 12.
  */
 uint8_t rithennaw_check(const uint8_t *image, size_t image_len);

@@ -59,8 +59,7 @@ fn calls(rng: &mut Rng) -> [Call; 4] {
 
 /// Every call of an accepted image with every output, and some records. Gives the image after the turns.
 fn accepted(comparison: &mut Comparison, rng: &mut Rng, image: &[u8]) -> Result<Vec<u8>, Mismatch> {
-    comparison.check(image)?;
-    comparison.rewrite(rng, image)?;
+    comparison.accepted(rng, image)?;
     let mut after = image.to_vec();
     for call in calls(rng) {
         let room = IMAGE_MAX + rng.below(9);
@@ -71,10 +70,7 @@ fn accepted(comparison: &mut Comparison, rng: &mut Rng, image: &[u8]) -> Result<
         outputs(comparison, rng, call, image, agreed.answer.length)?;
         match call {
             Call::Turns(_) => after = agreed.bytes,
-            Call::View(_) => {
-                comparison.check(&agreed.bytes)?;
-                comparison.rewrite(rng, &agreed.bytes)?;
-            }
+            Call::View(_) => comparison.accepted(rng, &agreed.bytes)?,
             Call::Rewrite | Call::Sheet(_) => {}
         }
     }

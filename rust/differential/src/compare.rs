@@ -65,8 +65,17 @@ impl Comparison {
         Ok(Agreed { answer: first.answer, bytes })
     }
 
-    /// Has both write an accepted image again, which gives its own bytes.
-    pub fn rewrite(&mut self, rng: &mut Rng, image: &[u8]) -> Result<(), Mismatch> {
+    /// Has both check an accepted image and write it again, which gives 0 and its own bytes.
+    pub fn accepted(&mut self, rng: &mut Rng, image: &[u8]) -> Result<(), Mismatch> {
+        let number = self.check(image)?;
+        if number != 0 {
+            return Err(self.mismatch(
+                "an accepted image is refused",
+                "Check",
+                image,
+                [number; 2].map(|n| n.to_string()),
+            ));
+        }
         let agreed = self.call(rng, Call::Rewrite, image, IMAGE_MAX)?;
         if agreed.answer.number == 0 && agreed.bytes == image {
             return Ok(());
@@ -76,10 +85,10 @@ impl Comparison {
     }
 
     /// Asks both for the image's number.
-    pub fn check(&mut self, image: &[u8]) -> Result<(), Mismatch> {
+    pub fn check(&mut self, image: &[u8]) -> Result<u8, Mismatch> {
         let number = self.ask("Check", image, |implementation, image| (implementation.check)(image))?;
         self.tally.check(number);
-        Ok(())
+        Ok(number)
     }
 
     /// Asks both where the record of a slot stands.

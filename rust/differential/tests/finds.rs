@@ -111,7 +111,10 @@ fn a_check_that_accepts_what_one_rule_refuses() {
 #[test]
 fn a_check_that_refuses_the_shortest_image() {
     let check = |image: &[u8]| if image.len() == IMAGE_MIN { 3 } else { reference::check(image) };
-    found(Implementation { name: "wrong", check, ..REFERENCE });
+    let wrong = Implementation { name: "wrong", check, ..REFERENCE };
+    found(wrong);
+    let report = difference([wrong, wrong]).expect("a difference");
+    assert!(report.starts_with("an accepted image is refused"), "{report}");
 }
 
 #[test]

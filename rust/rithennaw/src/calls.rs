@@ -23,7 +23,7 @@ pub struct TurnedInto {
     pub busy: u64,
 }
 
-/// Whether the image is accepted, by itself: so whether every other call takes it.
+/// Whether the image is accepted, by itself. No other call then refuses it but for its own arguments.
 ///
 /// # Errors
 /// Refusals 3 to 12.
