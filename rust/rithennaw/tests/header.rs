@@ -41,6 +41,7 @@ fn the_headers_limits_are_the_definitions() {
     let names = [
         ("IMAGE_MIN", "shortestImage"),
         ("IMAGE_MAX", "longestImage"),
+        ("SHEET_MAX", "sheetRoom"),
         ("TURNS_MAX", "turnLimit"),
         ("OBSERVER_MAX", "highestLabel"),
         ("SLOT_MAX", "highestSlot"),
@@ -50,9 +51,6 @@ fn the_headers_limits_are_the_definitions() {
         assert!(limit.is_some(), "{definition}");
         assert_eq!(defined(&header, name), limit, "{name}");
     }
-    let sheet = behind(&file("crates/sheet/src/lib.rt"), "pub const SHEET_MAX: usize = ");
-    assert!(sheet.is_some());
-    assert_eq!(defined(&header, "SHEET_MAX"), sheet);
 }
 
 /// The numbers of the header's enum, in order: name, number, and the sentence in the comment ahead of it.
