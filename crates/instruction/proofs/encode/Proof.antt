@@ -1,7 +1,7 @@
--- `instruction::encode` meets its contract: each arm is given that i is the case at the operands that it binds.
+-- `instruction::encode` meets its contract. An arm has a line of either kind: what it binds are the form's operands, and of its
+-- form the bytes compute.
 use borrow.Author.Needs.{needs}
-use mathlib.Core.Path.{ap, sym}
-use Rattle.instruction.specs.Encode.{encode}
+use Rattle.instruction.proofs.Arms.{encode-at}
 use Rattle.instruction.proofs.encode.Statement.{statement}
 use Rattle.instruction.proofs.encode.Tie as tie
 
@@ -22,16 +22,16 @@ encode-spec =
     (λ c. search needs)
     (λ c. search needs)
     (λ c. search needs)
-    (λ c. search needs)
-    (λ c. ap encode (sym (c .before .i .given .1)))
-    (λ c. ap encode (sym (c .before .i2 .given .1)))
-    (λ c. ap encode (sym (c .before .i3 .given .1)))
-    (λ c. ap encode (sym (c .before .i4 .given .1)))
-    (λ c. ap encode (sym (c .before .i5 .given .1)))
-    (λ c. ap encode (sym (c .before .i6 .given .1)))
-    (λ c. ap encode (sym (c .before .i7 .given .1)))
-    (λ c. ap encode (sym (c .before .i8 .given .1)))
-    (λ c. ap encode (sym (c .before .i9 .given .1)))
-    (λ c. ap encode (sym (c .before .i10 .given .1)))
-    (λ c. ap encode (sym (c .before .i11 .given .1)))
-    (λ c. ap encode (sym (c .before .i12 .given .1))))
+    (λ c. search encode-at)
+    (λ c. search encode-at)
+    (λ c. search encode-at)
+    (λ c. search encode-at)
+    (λ c. search encode-at)
+    (λ c. search encode-at)
+    (λ c. search encode-at)
+    (λ c. search encode-at)
+    (λ c. search encode-at)
+    (λ c. search encode-at)
+    (λ c. search encode-at)
+    (λ c. search encode-at)
+    (λ c. search encode-at))
