@@ -58,13 +58,13 @@ module _ {s : ℕ} {ss : List Slot} (ready : Ready s ss) where
 
   -- ---- registers and place
 
-  pub end-done : set ss s (slotWithKind 2 (slotAt ss s)) ≡ executed End s ss
+  pub end-done : (after : List Slot) → after ≡ set ss s (slotWithKind 2 (slotAt ss s)) → after ≡ executed End s ss
   unfolding execute
-  end-done = stops End 2 refl refl
+  end-done after e = e ∙ stops End 2 refl refl
 
-  pub set-done : (a b c : ℕ) → change s (λ t. next (withRegister a (b * 256 + c) t)) ss ≡ executed (Set a b c) s ss
+  pub set-done : (after : List Slot) (a b c : ℕ) → after ≡ change s (λ t. next (withRegister a (b * 256 + c) t)) ss → after ≡ executed (Set a b c) s ss
   unfolding execute
-  set-done a b c = alone (Set a b c) (λ t. next (withRegister a (b * 256 + c) t)) refl
+  set-done after a b c e = e ∙ alone (Set a b c) (λ t. next (withRegister a (b * 256 + c) t)) refl
 
   pub copy-done : (a b : ℕ) {x : ℕ} → x ≡ register (taskAt ss s) b → change s (λ t. next (withRegister a x t)) ss ≡ executed (Copy a b) s ss
   unfolding execute
@@ -81,9 +81,9 @@ module _ {s : ℕ} {ss : List Slot} (ready : Ready s ss) where
   subtract-done a b c {x} {y} {z} e f h g back =
       alone (Subtract a b c) (λ t. next (withRegister a z t)) (rw (← e, ← f, subtracted z x y h g back))
 
-  pub go-done : (a : ℕ) → change s (withPc a) ss ≡ executed (Go a) s ss
+  pub go-done : (after : List Slot) (a : ℕ) → after ≡ change s (withPc a) ss → after ≡ executed (Go a) s ss
   unfolding execute
-  go-done a = alone (Go a) (withPc a) refl
+  go-done after a e = e ∙ alone (Go a) (withPc a) refl
 
   pub zero-jumps : (a b : ℕ) {x : ℕ} → x ≡ register (taskAt ss s) a → x ≡ 0 → change s (withPc b) ss ≡ executed (Zero a b) s ss
   unfolding execute
@@ -212,3 +212,15 @@ send-label d e = decoded-sound d e .1
 
 pub sandbox-size : {i : Instruction} {a b c : ℕ} → WasDecoded i → i ≡ Sandbox a b c → 1 ≤ c
 sandbox-size d e = decoded-sound d e .2 .0
+
+-- ---- the arms of the match over the instruction: one law serves every arm
+
+-- the instruction is the form j
+pub executed-as : (after ss : List Slot) (s : ℕ) (i j : Instruction) → i ≡ j → after ≡ executed j s ss → after ≡ executed i s ss
+executed-as after ss s i j e h = rw e h
+
+-- with the effects that have no function of their own
+pub ruleset by-form = (executed-as, end-done, set-done, go-done)
+
+-- what an effect asks of its operands
+pub ruleset of-operands = (send-label, sandbox-size)
