@@ -1,9 +1,10 @@
 //! Ways to damage an accepted image, a field of the layout at a time, and the number that each leads to.
 
 use crate::images::{MAIL_MAX, MAIL_PER_LABEL};
-use crate::instructions::OPERANDS;
+use crate::instructions::illegal;
 use crate::programs::PROGRAM_MAX;
 use crate::rng::Rng;
+use layout::instructions::TABLE;
 use layout::{Image, Message, Task, MESSAGE_LENGTH, SLOTS, TASK_LENGTH};
 
 /// A way to damage an image.
@@ -94,7 +95,7 @@ fn instructions_257(_: &mut Rng, image: &mut Image) -> bool {
 }
 
 fn code(rng: &mut Rng, image: &mut Image) -> bool {
-    let first_illegal = OPERANDS.len();
+    let first_illegal = TABLE.len();
     let at = rng.below(image.program.len());
     image.program[at][0] = if rng.one_in(2) { first_illegal } else { rng.between(first_illegal, 255) } as u8;
     true
@@ -104,8 +105,8 @@ fn code(rng: &mut Rng, image: &mut Image) -> bool {
 fn operand(rng: &mut Rng, image: &mut Image, which: usize) -> bool {
     let n = image.program.len();
     let at = rng.below(n);
-    let Some(operands) = OPERANDS.get(usize::from(image.program[at][0])) else { return false };
-    let Some(byte) = operands[which].illegal(rng, n) else { return false };
+    let Some(row) = TABLE.get(usize::from(image.program[at][0])) else { return false };
+    let Some(byte) = illegal(rng, row.operands[which], n) else { return false };
     image.program[at][1 + which] = byte;
     true
 }

@@ -1,16 +1,17 @@
 //! Legal programs that do something: fragments that loop, send, receive, raise and make tasks, and random instructions.
 
-use crate::instructions::{
-    Operand, ADD, COPY, END, GO, OPERANDS, POLL, RAISE, SANDBOX, SELF, SEND, SET, SUBTRACT, TAKE, ZERO,
-};
+use crate::instructions::legal;
 use crate::rng::Rng;
+use layout::instructions::{
+    Operand, ADD, COPY, END, GO, POLL, RAISE, SANDBOX, SELF, SEND, SET, SUBTRACT, TABLE, TAKE, ZERO,
+};
 use layout::Instruction;
 
 /// The longest program, in instructions.
 pub const PROGRAM_MAX: usize = 256;
 
 /// Codes by how often a random instruction has them: those that stop or raise a task less often than the others.
-const CODES: [u8; 24] = [
+const CODES: &[u8] = &[
     END, SET, SET, COPY, ADD, ADD, SUBTRACT, GO, GO, ZERO, ZERO, RAISE, SEND, SEND, SEND, SEND, TAKE, TAKE, POLL, POLL,
     POLL, SANDBOX, SANDBOX, SELF,
 ];
@@ -18,13 +19,13 @@ const CODES: [u8; 24] = [
 /// A legal instruction of a program of `n`. Its labels are often of `labels` or 15, so that some sends pass and some
 /// do not.
 fn random_instruction(rng: &mut Rng, n: usize, labels: &[u8]) -> Instruction {
-    let code = rng.pick(&CODES);
-    let [a, b, c] = OPERANDS[usize::from(code)].map(|operand| match operand {
+    let code = rng.pick(CODES);
+    let [a, b, c] = TABLE[usize::from(code)].operands.map(|operand| match operand {
         Operand::Label if rng.one_in(4) => 15,
         Operand::Label if rng.one_in(2) => rng.pick(labels),
         Operand::Size if rng.one_in(2) => rng.pick(&[1, 2]),
         Operand::Any if rng.one_in(2) => rng.pick(&[0, 0, 0, 1, 5, 15, 16, 255]),
-        _ => operand.legal(rng, n),
+        _ => legal(rng, operand, n),
     });
     [code, a, b, c]
 }

@@ -4,8 +4,8 @@
 use differential::calls::BOTH;
 use differential::damage::FAULTS;
 use differential::images;
-use differential::instructions::OPERANDS;
 use differential::rng::Rng;
+use layout::instructions::TABLE;
 use layout::{Image, SLOTS};
 use rithennaw::{record, turns, IMAGE_MAX, IMAGE_MIN};
 use std::collections::BTreeSet;
@@ -50,7 +50,7 @@ fn each_fault_alone_leads_to_its_number() {
 
 #[test]
 fn programs_have_every_instruction() {
-    let mut counts = [0; OPERANDS.len()];
+    let mut counts = [0; TABLE.len()];
     for (_, image) in made_up(500) {
         image.program.iter().for_each(|instruction| counts[usize::from(instruction[0])] += 1);
     }

@@ -1,12 +1,9 @@
 //! The program: instructions, and the names of places in it.
 
 use crate::line::{Fault, Line};
+use layout::instructions::TABLE;
 use layout::Instruction;
 use std::collections::HashMap;
-
-/// The words of 01's table; an instruction's code is the index of its word.
-const WORDS: [&str; 13] =
-    ["end", "set", "copy", "add", "subtract", "go", "zero", "raise", "send", "take", "poll", "sandbox", "self"];
 
 /// Names of places in the program: `NAME:` names the place of the instruction that follows.
 #[derive(Default)]
@@ -49,14 +46,14 @@ pub fn instructions(body: &[Line], names: &Names) -> Result<Vec<Instruction>, Fa
 
 fn instruction(line: &Line, names: &Names) -> Result<Instruction, Fault> {
     let word = line.words[0];
-    let code = WORDS
+    let row = TABLE
         .iter()
-        .position(|known| *known == word)
+        .find(|row| row.word == word)
         .ok_or_else(|| line.fault(format!("`{word}` is not an instruction")))?;
     let [_, a, b, c] = line.words[..] else {
         return Err(line.fault(format!("`{word}` takes three operands, not {}", line.words.len() - 1)));
     };
-    Ok([code as u8, names.value(line, a)?, names.value(line, b)?, names.value(line, c)?])
+    Ok([row.code, names.value(line, a)?, names.value(line, b)?, names.value(line, c)?])
 }
 
 /// The name that a line `NAME:` gives.

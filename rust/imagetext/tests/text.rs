@@ -3,6 +3,7 @@
 use std::process::{Command, Output};
 
 use imagetext::image;
+use layout::instructions::{Row, TABLE};
 
 /// 01's image B.
 const B: &str = "
@@ -42,25 +43,9 @@ fn image_b() {
 
 #[test]
 fn every_word_has_its_code() {
-    // Words and codes as 01's table has them.
-    let table = [
-        ("end", 0x00),
-        ("set", 0x01),
-        ("copy", 0x02),
-        ("add", 0x03),
-        ("subtract", 0x04),
-        ("go", 0x05),
-        ("zero", 0x06),
-        ("raise", 0x07),
-        ("send", 0x08),
-        ("take", 0x09),
-        ("poll", 0x0a),
-        ("sandbox", 0x0b),
-        ("self", 0x0c),
-    ];
-    for (word, code) in table {
+    for Row { word, code, .. } in TABLE {
         let bytes = image(&format!("program\n{word} 1 20 255\n")).unwrap();
-        assert_eq!(bytes[..7], [1, 0, 4, code, 1, 20, 255], "{word}");
+        assert_eq!(bytes[..7], [1, 0, 4, *code, 1, 20, 255], "{word}");
     }
 }
 

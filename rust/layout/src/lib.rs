@@ -1,6 +1,9 @@
-//! The parts of an image and their bytes. A part may have any value, so that a damaged image is made like any other.
+//! The parts of an image and their bytes, and the table of instructions. A part may have any value, so that a damaged image
+//! is made like any other.
 
 #![forbid(unsafe_code)]
+
+pub mod instructions;
 
 /// The number of slots.
 pub const SLOTS: usize = 16;
