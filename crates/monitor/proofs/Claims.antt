@@ -11,6 +11,7 @@ use Rattle.wire.specs.Output.{overwrite}
 use Rattle.wire.proofs.Lists.{length-nil}
 use Rattle.machine.specs.State.{State}
 use Rattle.machine.specs.Valid.{Valid}
+use Rattle.machine.specs.View.{viewBy}
 use Rattle.machine.specs.Machine.{turns, view}
 use Rattle.machine.proofs.Machine.{turns-valid, view-valid, view-15}
 use Rattle.image.specs.Image.{stateOf, imageBytes}
@@ -19,7 +20,7 @@ use Rattle.image.proofs.Image.{accepted-length, image-listed, image-forth, reco
 use Rattle.image.proofs.Image.{extent-none, extent-some, extent-told, extent-within}
 use Rattle.monitor.specs.Calls.{rewriteCall, turnsCall, viewCall}
 use Rattle.monitor.specs.Claims.{NumbersAreListed, LimitsAreRefused, NoneInAnyOtherEvent, OthersAreAccepted, CallsWriteTheirAnswer, RecordIsItsPart}
-use Rattle.monitor.specs.Claims.{ImageLengths, ReadThenWrite, WriteThenRead, ViewIsAccepted, ViewFor15, Secrecy, EqualViewsAreEqualBytes}
+use Rattle.monitor.specs.Claims.{ImageLengths, ReadThenWrite, WriteThenRead, ViewIsAccepted, ViewFor15, ProgramInEveryView, Secrecy, EqualViewsAreEqualBytes}
 use Rattle.monitor.proofs.Calls.{accepted-exactly, numbers-by-cause, observer-low, limit-exactly, output-accepted, writes-its-answer, number-holds, observer-listed}
 use Rattle.monitor.proofs.Secrecy as Secrecy
 use Rattle.monitor.proofs.Secrecy.{read-valid, rewritten, written-accepted, equal-bytes, equal-views}
@@ -101,6 +102,13 @@ view-is-accepted v image a = written-accepted _ (view-valid v (stateOf image) (r
 
 pub view-for-15 : ViewFor15
 view-for-15 image a = ap imageBytes (view-15 (stateOf image) (read-valid image a)) ∙ rewritten image a
+
+pub program-in-every-view : ProgramInEveryView
+unfolding stateOf viewBy
+program-in-every-view v image a =
+    let s = stateOf image in
+    let read = image-forth (view v s) (view-valid v s (read-valid image a)) in
+    (ap (λ (r : State). r .program) read, ap (λ (r : State). r .turnSlot) read)
 
 pub secrecy : Secrecy
 secrecy v seen image image′ a a′ e calls calls′ p p′ n = Secrecy.secrecy v seen image image′ a a′ e calls calls′ p p′ n

@@ -11,7 +11,7 @@ use Rattle.machine.specs.State.{State, slotAt}
 use Rattle.machine.specs.Valid.{Valid}
 use Rattle.image.specs.Record.{recordBytes}
 use Rattle.image.specs.declared.Extent.{Extent}
-use Rattle.image.specs.Image.{stateOf, imageBytes}
+use Rattle.image.specs.Image.{programOf, turnSlotOf, stateOf, imageBytes}
 use Rattle.image.specs.Refusal.{imageNumber}
 use Rattle.image.specs.Part.{recordStart, recordPart, recordExtent}
 use Rattle.monitor.specs.declared.Answer.{Answer}
@@ -125,6 +125,12 @@ abbrev pub ViewFor15 : Type 0
 ViewFor15 = (image : List ℕ) → Accepted image → viewBytes 15 image ≡ image
 
 -- ---- demand 3: the secrecy rule
+
+-- "The program and the slot next in turn are in every view."
+abbrev pub ProgramInEveryView : Type 0
+ProgramInEveryView =
+    (v : ℕ) (image : List ℕ) → Accepted image
+    → (programOf (viewBytes v image) ≡ programOf image) × (turnSlotOf (viewBytes v image) ≡ turnSlotOf image)
 
 -- "given outputs of equal length, tells the same number and the same length for both and writes the same bytes": of two calls
 abbrev pub TellTheSame : Call → Call → Type 0
