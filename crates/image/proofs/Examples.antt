@@ -10,11 +10,11 @@ use Rattle.image.specs.Refusal as Refusal
 use Rattle.image.specs.Examples.{Examples}
 
 pub examples : Examples
-unfolding Lists.each Lists.all Table.decode Program.instructionAt Program.allLegal Items.decodeItems
+unfolding Lists.each Lists.all Table.decode Program.instructionAt Refusal.instructionsNumber Items.decodeItems
     Items.encodeItems Image.programLength Image.slotsPart
     Refusal.versionNumber Valid.isProgramLength Refusal.programNumber Refusal.turnSlotNumber Image.recordLength
     Image.skip Image.slotsOf Refusal.isRecordLength Refusal.slotNumber Refusal.slotsNumber Refusal.tailNumber
-    Valid.sparesUnused Refusal.spareNumber Refusal.imageNumber Image.imageBytes
+    Valid.sparesUnused Refusal.estateNumber Refusal.imageNumber Image.imageBytes
 examples = record {
   shortest = (refl, refl);
   longest = (refl, refl);
@@ -32,5 +32,5 @@ examples = record {
   whole = (refl, refl);
   slots = (refl, refl, refl);
   order = refl;
-  call = (refl, refl, refl, refl);
+  call = (refl, refl, refl);
 }

@@ -11,21 +11,21 @@ use borrow.Author.Tests.{leb-true, le-leb, eqb-true, eqb-false, ne-eqb}
 use lib.Dec.{leb, eqb}
 use lib.ListN.{length, getD, take, drop, length-append, length-take, length-drop, take-append-drop}
 use lib.Seq.{take-add, length-take-le, take-append-seam, drop-append-seam, getD-append-seam, getD-drop, drop-drop, drop-cons}
-use Rattle.wire.specs.Lists.{Bytes, IsByte}
+use Rattle.wire.specs.Lists.{Bytes}
+use Rattle.wire.proofs.Lists.{IsByte, split, length-nil, take-length-take, every-drop, every-take, every-append}
 use Rattle.wire.specs.Numbers.{decodeNumber, encodeNumber}
-use Rattle.wire.proofs.Lists.{split, length-nil, take-length-take, every-drop, every-take, every-append}
 use Rattle.wire.proofs.Numbers.{encode-decode, decode-encode, encode-bytes}
 use Rattle.instruction.specs.Program.{count, allLegal}
 use Rattle.machine.specs.State.{State, slotAt}
 use Rattle.machine.specs.Valid.{isProgramLength, sparesUnused, ValidSlot, Valid}
 use Rattle.machine.proofs.Rules.{size-facts}
-use Rattle.image.specs.Refusal.{_then_, unless, short, versionNumber, programNumber, turnSlotNumber, slotsNumber, tailNumber, spareNumber, imageNumber}
+use Rattle.image.specs.Refusal.{_then_, unless, short, versionNumber, programNumber, turnSlotNumber, slotsNumber, tailNumber, estateNumber, imageNumber}
 use Rattle.image.specs.Record.{recordBytes}
 use Rattle.image.specs.Image.{programLength, turnSlotAt, slotsAt, programOf, turnSlotOf, slotsPart, recordLength, recordOf, span, skip, slotsOf, stateOf}
 use Rattle.image.specs.Image.{imageBytes}
 use Rattle.image.specs.Inner.{fromSlot}
 use Rattle.image.specs.Part.{recordStart, recordPart, recordExtent}
-use Rattle.image.proofs.Refusal.{then-left, then-right, then-assoc, then-holds, Listed, listed-unless, listed-short, unless-none, short-none}
+use Rattle.image.proofs.Refusal.{instructions-number, then-left, then-right, then-assoc, then-holds, Listed, listed-unless, listed-short, unless-none, short-none}
 use Rattle.image.proofs.Slots.{slotsBytes, slots-back, slots-valid, slots-length, slots-listed, length-slotsOf, slot-at, skip-drop, record-at, slots-number, slots-forth, slots-end, slots-bytes}
 
 -- what stands ahead of the slots, then the rest
@@ -33,10 +33,10 @@ pub image-number : (b : List ℕ) → imageNumber b
     ≡ ((versionNumber b then programNumber b then turnSlotNumber b)
     then slotsNumber 16 0 (count (programOf b)) (slotsPart b)
     then tailNumber b
-    then spareNumber b)
+    then estateNumber b)
 unfolding imageNumber
 image-number b =
-    let rest = slotsNumber 16 0 (count (programOf b)) (slotsPart b) then tailNumber b then spareNumber b in
+    let rest = slotsNumber 16 0 (count (programOf b)) (slotsPart b) then tailNumber b then estateNumber b in
     sym (then-assoc (versionNumber b) (programNumber b then turnSlotNumber b) rest ∙ ap (λ (x : ℕ). versionNumber b then x) (then-assoc (programNumber b) (turnSlotNumber b) rest))
 
 -- ---- what acceptance says, part by part
@@ -53,7 +53,7 @@ record InOrder (b : List ℕ) : Type 0 where
   pub spares : sparesUnused (slotsOf 16 (slotsPart b)) ≡ true
 
 in-order : (b : List ℕ) → imageNumber b ≡ 0 → InOrder b
-unfolding imageNumber versionNumber programNumber turnSlotNumber tailNumber spareNumber
+unfolding imageNumber versionNumber programNumber turnSlotNumber tailNumber estateNumber
 in-order b e =
     let p = then-right (versionNumber b) _ e in
     let t = then-right (programNumber b) _ p in
@@ -67,7 +67,7 @@ in-order b e =
       version = eqb-true _ _ (unless-none (eqb (getD b 0 0) 1) 3 (then-right (short 1 b) _ (then-left (versionNumber b) _ e)));
       three = short-none 3 b (then-left _ _ (then-left (programNumber b) _ p));
       size = unless-none (isProgramLength (programLength b)) 4 (then-left _ _ p₂);
-      legal = unless-none (allLegal (programOf b)) 5 p₄;
+      legal = unless-none (allLegal (programOf b)) 5 (sym (instructions-number (programOf b)) ∙ p₄);
       ahead = short-none (slotsAt b) b (then-left _ _ t₂);
       turnSlot = unless-none (leb (turnSlotOf b) 15) 6 (then-right (short (slotsAt b) b) _ t₂);
       slots = then-left _ _ s;
@@ -209,7 +209,7 @@ module _ (s : State) (ok : Valid s) where
   version-is = refl
 
   pub image-accepted : imageNumber (imageBytes s) ≡ 0
-  unfolding bytes size imageNumber versionNumber programNumber turnSlotNumber slotsPart tailNumber spareNumber
+  unfolding bytes size imageNumber versionNumber programNumber turnSlotNumber slotsPart tailNumber estateNumber
   image-accepted =
       let m = room in
       simp (
@@ -222,6 +222,7 @@ module _ (s : State) (ok : Valid s) where
         slots-none,
         tail-none,
         ok .size,
+        instructions-number (s .program),
         ok .legal,
         ok .turnSlot,
         ok .spares,
@@ -239,10 +240,10 @@ program-listed b =
     let l = programLength b in
     then-holds Listed (short 3 b) _ (listed-short 3 b)
     (then-holds Listed (unless (isProgramLength l) 5) _ (listed-unless (isProgramLength l) 5 (omega arith) (omega arith))
-    (then-holds Listed (short (3 + l) b) _ (listed-short (3 + l) b) (listed-unless (allLegal (programOf b)) 6 (omega arith) (omega arith))))
+    (then-holds Listed (short (3 + l) b) _ (listed-short (3 + l) b) (rw (instructions-number (programOf b)) (listed-unless (allLegal (programOf b)) 6 (omega arith) (omega arith)))))
 
 pub image-listed : (b : List ℕ) → Listed (imageNumber b)
-unfolding imageNumber versionNumber turnSlotNumber tailNumber spareNumber
+unfolding imageNumber versionNumber turnSlotNumber tailNumber estateNumber
 image-listed b =
     let n = count (programOf b) in
     then-holds Listed (versionNumber b) _ (then-holds Listed (short 1 b) _ (listed-short 1 b) (listed-unless (eqb (getD b 0 0) 1) 4 (omega arith) (omega arith)))

@@ -7,9 +7,9 @@ use native.Mathlib.Nat.{not-suc-le-zero, le-of-suc-le-suc}
 use native.Mathlib.Omega.{arith}
 use lib.ListN.{length, take, drop, length-append, length-drop, take-append-drop}
 use lib.Seq.{take-add, take-all, drop-at}
-use Rattle.wire.specs.Lists.{Bytes, Every, IsByte}
+use Rattle.wire.specs.Lists.{Bytes, Every}
+use Rattle.wire.proofs.Lists.{IsByte, length-nil, every-drop, every-append}
 use Rattle.wire.specs.Numbers.{decodeNumber, encodeNumber}
-use Rattle.wire.proofs.Lists.{length-nil, every-drop, every-append}
 use Rattle.wire.specs.Items.{decodeItems, encodeItems}
 use Rattle.wire.proofs.Items.{length-decode, every-decode, items-back, items-forth, length-items, items-bytes}
 use Rattle.wire.proofs.Numbers.{length-encode, encode-decode, decode-encode, decode-lt, encode-bytes}

@@ -2,14 +2,18 @@
 use Prim.Native.Nat.{ℕ, zero, suc, _≤_}
 use mathlib.Core.Logic.{_≢_}
 use mathlib.Core.Path.{_≡_, refl}
-use mathlib.Core.Bool.{Bool, true, false}
+use mathlib.Core.Bool.{Bool, true, false, _&&_}
 use mathlib.Core.List.{List}
 use native.Mathlib.Nat.{suc-ne-zero}
 use native.Mathlib.Omega.{arith}
 use borrow.Author.Tests.{le-leb, leb-true}
 use lib.Dec.{leb}
 use lib.ListN.{length}
-use Rattle.image.specs.Refusal.{_then_, unless, short}
+use Rattle.wire.specs.Lists.{each}
+use Rattle.instruction.specs.declared.Decoded.{Decoded}
+use Rattle.instruction.specs.declared.Decoded.the-variants.{Legal, Illegal}
+use Rattle.instruction.specs.Program.{count, instructionAt, isLegal, allLegal}
+use Rattle.image.specs.Refusal.{_then_, unless, short, decodedNumber, instructionsNumber}
 
 pub then-left : (x y : ℕ) → (x then y) ≡ 0 → x ≡ 0
 then-left zero y e = refl
@@ -78,3 +82,20 @@ short-none n b e = leb-true n (length b) (unless-none (leb n (length b)) 2 e)
 
 pub long-enough : (n : ℕ) (b : List ℕ) → n ≤ length b → short n b ≡ 0
 long-enough n b h = rw (le-leb n (length b) h)
+
+-- ---- the instructions: no number exactly where all are legal
+
+legal-number : (t : Bool) (d : Decoded) → (unless t 6 then decodedNumber d) ≡ unless (isLegal d && t) 6
+legal-number true (Legal i) = refl
+legal-number true Illegal = refl
+legal-number false (Legal i) = refl
+legal-number false Illegal = refl
+
+first-number : (program : List ℕ) (k : ℕ) → instructionsNumber k program ≡ unless (each k (λ pc. isLegal (instructionAt program pc))) 6
+unfolding instructionsNumber each
+first-number program zero = refl
+first-number program (suc k) = rw (first-number program k) (legal-number (each k (λ pc. isLegal (instructionAt program pc))) (instructionAt program k))
+
+pub instructions-number : (program : List ℕ) → instructionsNumber (count program) program ≡ unless (allLegal program) 6
+unfolding allLegal
+instructions-number program = first-number program (count program)

@@ -9,10 +9,10 @@ use borrow.Author.Tests.{leb-true, le-leb, eqb-true, eqb-false, ne-eqb}
 use lib.Dec.{leb, eqb}
 use lib.ListN.{length, take, drop, length-append, length-drop, take-append-drop}
 use lib.Seq.{take-add, length-take-le, take-append-seam, drop-append-seam, drop-drop}
-use Rattle.wire.specs.Lists.{Bytes, IsByte}
+use Rattle.wire.specs.Lists.{Bytes}
+use Rattle.wire.proofs.Lists.{IsByte, split, and-both, every-drop, every-take, every-append}
 use Rattle.wire.specs.Items.{encodeItems}
 use Rattle.wire.specs.Numbers.{encodeNumber}
-use Rattle.wire.proofs.Lists.{split, and-both, every-drop, every-take, every-append}
 use Rattle.wire.proofs.Numbers.{encode-decode, decode-encode, encode-bytes}
 use Rattle.machine.specs.State.{Slot, unused, used, slotAt}
 use Rattle.machine.specs.Valid.{fieldsInRange, mailInRange, ValidSlot}

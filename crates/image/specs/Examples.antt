@@ -1,13 +1,13 @@
 -- Images as rows of one claim: the shortest and the longest, one for each number, and those with two faults, which get the
--- first met.
-use Prim.Native.Nat.{ℕ, zero, suc, _+_}
+-- first met; and the order over a call.
+use Prim.Native.Nat.{ℕ, zero, suc}
 use mathlib.Core.Path.{_≡_}
 use mathlib.Core.List.{List, [], _∷_, _++_}
 use lib.ListN.{length, set, take, replicate}
-use Rattle.machine.specs.Limits.{shortestImage, longestImage, turnLimit}
+use Rattle.machine.specs.Limits.{shortestImage, longestImage}
 use Rattle.machine.specs.State.{Message, Task, Slot, unused, used, withKind, withMailbox}
 use Rattle.image.specs.Image.{imageBytes}
-use Rattle.image.specs.Refusal.{observerNumber, turnsNumber, imageNumber, firstMet}
+use Rattle.image.specs.Refusal.{imageNumber, firstMet}
 
 -- a live task with its registers 0 and no mail
 abbrev pub task : ℕ → ℕ → ℕ → Task
@@ -54,7 +54,7 @@ pub record Examples : Type 0 where
   pub short : imageNumber (take 39 emptyImage) ≡ 3
   pub version : imageNumber (set emptyImage 0 2) ≡ 4
   pub programLength : imageNumber (set emptyImage 2 6) ≡ 5
-  pub instruction : imageNumber (set emptyImage 3 0x0D) ≡ 6
+  pub instruction : imageNumber (set emptyImage 3 0xFF) ≡ 6
   pub turnSlot : imageNumber (set emptyImage 7 16) ≡ 7
   pub recordLength : imageNumber (set emptyImage 9 36) ≡ 8
   pub tail : imageNumber (emptyImage ++ (0 ∷ [])) ≡ 11
@@ -67,15 +67,12 @@ pub record Examples : Type 0 where
   -- "Slot 3 with spare 2: slot 5 used gives 12, slot 6 used is accepted."
   pub estate : (numberOf (two 3 (task 0 2 0) 5 (task 0 0 0)) ≡ 12) × (numberOf (two 3 (task 0 2 0) 6 (task 0 0 0)) ≡ 0)
   -- "a part checked whole for 3 before it is judged": the program ahead of its instructions, a record ahead of its fields
-  pub whole : (imageNumber (take 6 (set emptyImage 3 0x0D)) ≡ 3) × (imageNumber (take 46 (image (one 0 (withKind 9 (task 0 0 0))))) ≡ 3)
+  pub whole : (imageNumber (take 6 (set emptyImage 3 0xFF)) ≡ 3) × (imageNumber (take 46 (image (one 0 (withKind 9 (task 0 0 0))))) ≡ 3)
   -- "per slot 8, 3, 9, 10": 8 ahead of 3, 9 ahead of 10, and a slot ahead of the next
   pub slots : (imageNumber (take 10 (set emptyImage 9 36)) ≡ 8)
       × (numberOf (one 0 (withKind 9 (ofTwo 5))) ≡ 9)
       × (numberOf (two 0 (ofTwo 5) 1 (withKind 9 (task 0 0 0))) ≡ 10)
   -- "Then 11, 12": 11 ahead of 12
   pub order : imageNumber (image (two 3 (task 0 2 0) 5 (task 0 0 0)) ++ (0 ∷ [])) ≡ 11
-  -- "Order: 1 or 2 first [..]. Then the image from front to back [..] 13": of a call that writes a byte into an output of none
-  pub call : (firstMet (observerNumber 16) [] (0 ∷ []) [] ≡ 1)
-      × (firstMet (turnsNumber (turnLimit + 1)) [] (0 ∷ []) [] ≡ 2)
-      × (firstMet 0 [] (0 ∷ []) [] ≡ 3)
-      × (firstMet 0 emptyImage (0 ∷ []) [] ≡ 13)
+  -- "Order: 1 or 2 first [..]. Then the image from front to back [..] 13": each ahead of the next, where all are met
+  pub call : (firstMet 1 [] (0 ∷ []) [] ≡ 1) × (firstMet 0 [] (0 ∷ []) [] ≡ 3) × (firstMet 0 emptyImage (0 ∷ []) [] ≡ 13)

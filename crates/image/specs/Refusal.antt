@@ -1,11 +1,14 @@
--- The numbers a caller may receive, in 01's order: each with its condition, behind what comes before it.
+-- The numbers a caller may receive, in 01's order: each with its condition, behind what comes before it. The tests of tasks
+-- taken apart, behind 5, 9, 10 and 12, are machine's (machine/specs/Valid.antt).
 use Prim.Native.Nat.{ℕ, zero, suc, _+_, _-_, _/_, _%_}
 use mathlib.Core.Bool.{Bool, true, false, _&&_, _||_}
 use mathlib.Core.List.{List}
 use lib.Dec.{leb, eqb}
 use lib.ListN.{length, getD}
-use Rattle.instruction.specs.Program.{count, allLegal}
-use Rattle.machine.specs.Limits.{highestLabel, highestSlot, turnLimit}
+use Rattle.instruction.specs.declared.Decoded.{Decoded}
+use Rattle.instruction.specs.declared.Decoded.the-variants.{Legal, Illegal}
+use Rattle.instruction.specs.Program.{count, instructionAt}
+use Rattle.machine.specs.Limits.{highestLabel, highestSlot, mostMessages, turnLimit}
 use Rattle.machine.specs.State.{Slot, unused, used}
 use Rattle.machine.specs.Valid.{isProgramLength, fieldsInRange, mailInRange, sparesUnused}
 use Rattle.image.specs.Record.{mailboxAt, messageSize, slotOf}
@@ -31,8 +34,8 @@ abbrev pub observerNumber : ℕ → ℕ
 observerNumber v = unless (leb v highestLabel) 1
 
 -- 2 turn limit: more than 1,000,000 turns
-abbrev pub turnsNumber : ℕ → ℕ
-turnsNumber n = unless (leb n turnLimit) 2
+abbrev pub turnLimitNumber : ℕ → ℕ
+turnLimitNumber n = unless (leb n turnLimit) 2
 
 -- ---- "Then the image from front to back, a part checked whole for 3 before it is judged"
 
@@ -44,13 +47,23 @@ short n b = unless (leb n (length b)) 3
 unfoldable pub versionNumber : List ℕ → ℕ
 versionNumber b = short 1 b then unless (eqb (getD b 0 0) 1) 4
 
--- 5 program length: no multiple of 4 from 4 to 1,024; 6 instruction: not in the table, or an operand outside it
+-- 6 instruction: not in the table, or an operand outside it
+abbrev pub decodedNumber : Decoded → ℕ
+decodedNumber (Legal i) = 0
+decodedNumber Illegal = 6
+
+-- the first k instructions
+unfoldable pub instructionsNumber : ℕ → List ℕ → ℕ
+instructionsNumber zero program = 0
+instructionsNumber (suc k) program = instructionsNumber k program then decodedNumber (instructionAt program k)
+
+-- 5 program length: no multiple of 4 from 4 to 1,024; then the program whole, and its instructions
 unfoldable pub programNumber : List ℕ → ℕ
 programNumber b =
     short programAt b
     then unless (isProgramLength (programLength b)) 5
     then short (turnSlotAt b) b
-    then unless (allLegal (programOf b)) 6
+    then instructionsNumber (count (programOf b)) (programOf b)
 
 -- 7 turn slot: above 15
 unfoldable pub turnSlotNumber : List ℕ → ℕ
@@ -58,17 +71,17 @@ turnSlotNumber b = short (slotsAt b) b then unless (leb (turnSlotOf b) highestSl
 
 -- ---- "per slot 8, 3, 9, 10"
 
+-- 8 record length: neither 0 nor 37 + 6 × k, k at most 64
+unfoldable pub isRecordLength : ℕ → Bool
+isRecordLength l = eqb l 0 || (leb mailboxAt l && eqb ((l - mailboxAt) % messageSize) 0 && leb ((l - mailboxAt) / messageSize) mostMessages)
+
 -- 9 task field: kind, label, place out of range, or s + spare above 15;
 -- 10 mail: message label or sender above 15, or five or more of one label
 abbrev pub recordNumber : ℕ → ℕ → Slot → ℕ
 recordNumber s n unused = 0
 recordNumber s n (used t) = unless (fieldsInRange s n t) 9 then unless (mailInRange (t .mailbox)) 10
 
--- 0 or 37 + 6 × k, k at most 64
-unfoldable pub isRecordLength : ℕ → Bool
-isRecordLength l = eqb l 0 || (leb mailboxAt l && eqb ((l - mailboxAt) % messageSize) 0 && leb ((l - mailboxAt) / messageSize) 64)
-
--- slot s, at the front of b, of an image with n instructions; 8 record length: neither 0 nor 37 + 6 × k, k at most 64
+-- slot s, at the front of b, of an image with n instructions
 unfoldable pub slotNumber : ℕ → ℕ → List ℕ → ℕ
 slotNumber s n b =
     short 2 b
@@ -88,8 +101,8 @@ unfoldable pub tailNumber : List ℕ → ℕ
 tailNumber b = unless (eqb (length (skip 16 (slotsPart b))) 0) 11
 
 -- 12 estate: a used slot lies in another task's spare
-unfoldable pub spareNumber : List ℕ → ℕ
-spareNumber b = unless (sparesUnused (slotsOf 16 (slotsPart b))) 12
+unfoldable pub estateNumber : List ℕ → ℕ
+estateNumber b = unless (sparesUnused (slotsOf 16 (slotsPart b))) 12
 
 -- the number of an image: the first that is met, and 0 where it is accepted
 unfoldable pub imageNumber : List ℕ → ℕ
@@ -99,8 +112,8 @@ imageNumber b =
     then turnSlotNumber b
     then slotsNumber 16 0 (count (programOf b)) (slotsPart b)
     then tailNumber b
-    then spareNumber b
+    then estateNumber b
 
--- a call's number, given that of its argument, 0 where it has none; 13 output: output shorter than the answer
+-- a call's number, given that of its argument, 0 where it is within its limit or there is none; 13 output: output shorter than the answer
 abbrev pub firstMet : ℕ → List ℕ → List ℕ → List ℕ → ℕ
 firstMet argument image answer out = argument then imageNumber image then unless (leb (length answer) (length out)) 13

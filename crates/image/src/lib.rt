@@ -7,7 +7,7 @@ ghost use Rattle.machine.specs.Valid.{isProgramLength, mailInRange, fieldsInRan
 ghost use Rattle.image.specs.Refusal.{_then_, unless, recordNumber, versionNumber, programNumber, turnSlotNumber};
 ghost use Rattle.image.specs.Record.{taskOf, slotOf};
 ghost use Rattle.image.specs.Image.{programLength, programOf, turnSlotOf, slotsPart, recordLength, recordOf, behind, skip, slotsOf};
-ghost use Rattle.image.specs.Refusal.{isRecordLength, slotNumber, slotsNumber, tailNumber, spareNumber, imageNumber};
+ghost use Rattle.image.specs.Refusal.{isRecordLength, slotNumber, slotsNumber, tailNumber, estateNumber, imageNumber};
 ghost use Rattle.image.specs.Inner.{fromSlot};
 ghost use Rattle.image.specs.Part.{recordPart, recordExtent};
 
@@ -299,8 +299,8 @@ fn spares_unused(b: &[u8]) -> bool
     true
 }
 
-fn spare_number(image: &[u8]) -> u8
-    ensures { λ r. ⌜ r ≡ spareNumber (now (image .entry)) ⌝ }
+fn estate_number(image: &[u8]) -> u8
+    ensures { λ r. ⌜ r ≡ estateNumber (now (image .entry)) ⌝ }
 {
     unless(spares_unused(slots_part(image)), 12)
 }
@@ -321,7 +321,7 @@ pub fn number(image: &[u8]) -> u8
     if tail != 0 {
         return tail;
     }
-    spare_number(image)
+    estate_number(image)
 }
 
 // ---- a slot's record

@@ -1,4 +1,5 @@
--- The four bytes of an instruction: what `instruction::encode` promises. No claim rests on it yet.
+-- The four bytes of an instruction: what `instruction::encode` promises. No claim and no call's promise names it; laws go
+-- through it.
 use Prim.Native.Nat.{ℕ}
 use mathlib.Core.List.{List, [], _∷_}
 use Rattle.instruction.specs.declared.Instruction.{Instruction}

@@ -1,36 +1,39 @@
--- The limits of this edition, each once.
+-- The highest numbers and the lengths that 01 allows, each once, in its order. How many slots, labels and registers there are
+-- stands where they are gone through.
 use Prim.Native.Nat.{ℕ}
 
--- labels and observers, slots and senders are 0 to 15
+-- labels, and so observers
 abbrev pub highestLabel : ℕ
 highestLabel = 15
+
+-- the bytes of a program
+abbrev pub longestProgram : ℕ
+longestProgram = 1024
 
 abbrev pub highestSlot : ℕ
 highestSlot = 15
 
-abbrev pub highestSender : ℕ
-highestSender = 15
+-- the messages of a mailbox, and those of one label
+abbrev pub mostMessages : ℕ
+mostMessages = 64
 
--- kinds are 1 to 5
-abbrev pub highestKind : ℕ
-highestKind = 5
-
--- a mailbox holds at most four messages of each label
 abbrev pub limitPerLabel : ℕ
 limitPerLabel = 4
 
--- the most bytes of a program
-abbrev pub longestProgram : ℕ
-longestProgram = 1024
+abbrev pub highestKind : ℕ
+highestKind = 5
 
--- the fewest and the most bytes of an image
+abbrev pub highestSender : ℕ
+highestSender = 15
+
+-- the bytes of an image
 abbrev pub shortestImage : ℕ
 shortestImage = 40
 
 abbrev pub longestImage : ℕ
 longestImage = 7796
 
--- the most turns of one call
+-- the turns of one call
 abbrev pub turnLimit : ℕ
 turnLimit = 1000000
 

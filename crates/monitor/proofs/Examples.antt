@@ -11,14 +11,15 @@ use Rattle.machine.specs.View as View
 use Rattle.machine.specs.Valid as Valid
 use Rattle.image.specs.Image as Image
 use Rattle.image.specs.Refusal as Refusal
+use Rattle.monitor.specs.Calls as Calls
 use Rattle.monitor.specs.Examples.{Examples}
 
 pub examples : Examples
 unfolding Lists.each Label.flows Table.decode Program.instructionAt Effect.execute Effect.outcome Turn.turnBy
-    Turn.turnsBy Turn.busyBy View.viewBy Program.allLegal Lists.all Items.decodeItems Items.encodeItems Image.programLength Image.slotsPart Refusal.versionNumber
+    Turn.turnsBy Turn.busyBy View.viewBy Refusal.instructionsNumber Lists.all Items.decodeItems Items.encodeItems Image.programLength Image.slotsPart Refusal.versionNumber
     Valid.isProgramLength Refusal.programNumber Refusal.turnSlotNumber Image.recordLength Image.skip Image.slotsOf
     Refusal.isRecordLength Refusal.slotNumber Refusal.slotsNumber Refusal.tailNumber Valid.sparesUnused
-    Refusal.spareNumber Refusal.imageNumber Image.stateOf Image.imageBytes
+    Refusal.estateNumber Refusal.imageNumber Image.stateOf Image.imageBytes Calls.callNumber Calls.callAnswer
 examples = record {
   p1 = (refl, refl);
   p2 = (refl, refl);
@@ -29,5 +30,6 @@ examples = record {
   p7 = (refl, refl);
   p8 = refl;
   p9 = (refl, refl);
+  order = (refl, refl, refl, refl);
   hidden = (refl, refl, refl, refl);
 }

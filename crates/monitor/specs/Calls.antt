@@ -1,5 +1,6 @@
--- The calls that write: what each tells, and what its output holds afterwards. Of the others `check` tells `imageNumber`
--- (image/specs/Refusal.antt), and `record` and `record_extent` tell `recordPart` and `recordExtent` (image/specs/Part.antt).
+-- The calls that write: what each tells, and what its output holds afterwards; the sheet's is in sheet/specs/Sheet.antt. Of the
+-- others `check` tells `imageNumber` (image/specs/Refusal.antt), and `record` and `record_extent` tell `recordPart` and
+-- `recordExtent` (image/specs/Part.antt).
 use Prim.Native.Nat.{ℕ}
 use mathlib.Core.Path.{_≡_}
 use mathlib.Core.Bool.{cond}
@@ -9,10 +10,10 @@ use lib.ListN.{length}
 use Rattle.wire.specs.Output.{overwrite}
 use Rattle.machine.specs.Machine.{turns, busy, view}
 use Rattle.image.specs.Image.{stateOf, imageBytes}
-use Rattle.image.specs.Refusal.{observerNumber, turnsNumber, firstMet}
+use Rattle.image.specs.Refusal.{observerNumber, turnLimitNumber, firstMet}
 use Rattle.monitor.specs.declared.Answer.{Answer}
 
--- a call: the number of its argument, 0 where it is within its limit; its image; the bytes to write; the busy count
+-- a call: the number of its argument, 0 where it is within its limit or there is none; its image; the bytes to write; the busy count
 pub record Call : Type 0 where
   pub argumentNumber : ℕ
   pub image : List ℕ
@@ -49,7 +50,7 @@ rewriteCall image = record { argumentNumber = 0; image = image; bytes = imageByt
 
 abbrev pub turnsCall : ℕ → List ℕ → Call
 turnsCall n image =
-    record { argumentNumber = turnsNumber n; image = image; bytes = imageBytes (turns n (stateOf image)); busy = busy n (stateOf image) }
+    record { argumentNumber = turnLimitNumber n; image = image; bytes = imageBytes (turns n (stateOf image)); busy = busy n (stateOf image) }
 
 -- ---- view: the view for label v
 

@@ -6,7 +6,7 @@ use mathlib.Core.List.{List, []}
 use lib.ListN.{length, take, drop}
 use Rattle.wire.specs.Lists.{Bytes}
 use Rattle.wire.specs.Output.{overwrite}
-use Rattle.machine.specs.Limits.{highestLabel, shortestImage, longestImage, turnLimit}
+use Rattle.machine.specs.Limits.{highestLabel, highestSlot, shortestImage, longestImage, turnLimit}
 use Rattle.machine.specs.State.{State, slotAt}
 use Rattle.machine.specs.Valid.{Valid}
 use Rattle.image.specs.Record.{recordBytes}
@@ -87,8 +87,8 @@ CallsWriteTheirAnswer = (c : Call) (out : List ℕ) → WritesItsAnswer c (callA
 -- A start and a length tell the same part: they are those of bytes within the image, and both 0 where it is empty.
 pub record IsRecordPart (image : List ℕ) (slot : ℕ) (part : List ℕ) (extent : Extent) : Type 0 where
   pub inside : part ≡ take (length part) (drop (recordStart image slot) image)
-  pub bytes : Accepted image → slot ≤ 15 → part ≡ recordBytes (slotAt (stateOf image .slots) slot)
-  pub above : (slot ≤ 15 → ⊥) → part ≡ []
+  pub bytes : Accepted image → slot ≤ highestSlot → part ≡ recordBytes (slotAt (stateOf image .slots) slot)
+  pub above : (slot ≤ highestSlot → ⊥) → part ≡ []
   pub refused : imageNumber image ≢ 0 → part ≡ []
   pub told : take (extent .length) (drop (extent .start) image) ≡ part
   pub within : extent .start + extent .length ≤ length image

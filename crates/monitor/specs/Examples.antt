@@ -1,4 +1,4 @@
--- The checked examples that 01 marks P, and a row more, as one claim about the definitions.
+-- The checked examples that 01 marks P, and two rows more, as one claim about the definitions.
 use Prim.Native.Nat.{ℕ, _+_}
 use mathlib.Core.Path.{_≡_}
 use mathlib.Core.Bool.{true, false}
@@ -11,7 +11,7 @@ use Rattle.image.specs.Record.{mailboxAt}
 use Rattle.image.specs.Image.{imageBytes}
 use Rattle.image.specs.Refusal.{imageNumber}
 use Rattle.image.specs.Examples.{task, message, one, two}
-use Rattle.monitor.specs.Calls.{viewBytes}
+use Rattle.monitor.specs.Calls.{callAnswer, rewriteCall, turnsCall, viewBytes, viewCall}
 
 abbrev pub state : List ℕ → ℕ → List Slot → State
 state program turnSlot slots = record { program = program; turnSlot = turnSlot; slots = slots }
@@ -90,6 +90,12 @@ pub record Examples : Type 0 where
   -- P9: four waiting messages of label 2, a fifth of label 2 dropped, one of label 0 kept.
   pub p9 : (turns 1 (b 0 2 (waiting [])) ≡ after 2 1 (waiting []))
       × (turns 1 (b 0 0 (waiting [])) ≡ after 0 1 (waiting (message 0 0 700 ∷ [])))
+  -- "Order: 1 or 2 first, each only in the call that has that argument. Then the image from front to back [..] 13." "1,000,001
+  -- refused with 2."
+  pub order : (callAnswer (viewCall 16 []) [] .number ≡ 1)
+      × (callAnswer (turnsCall 1000001 []) [] .number ≡ 2)
+      × (callAnswer (rewriteCall []) [] .number ≡ 3)
+      × (callAnswer (rewriteCall (bImage unused)) [] .number ≡ 13)
   -- The secrecy rule speaks of images that differ: B with and without a task of label 1 in slot 9 shows observer 0 the same.
   pub hidden : (imageNumber (bImage (used (task 1 0 0))) ≡ 0) × (imageNumber (bImage unused) ≡ 0)
       × (viewBytes 0 (bImage (used (task 1 0 0))) ≡ viewBytes 0 (bImage unused))

@@ -1,4 +1,4 @@
--- A definition for contracts of inner functions alone: no claim and no call's promise reaches it.
+-- A definition for contracts of functions that are no calls: no claim and no call's promise reaches it.
 use Prim.Native.Nat.{ℕ}
 use mathlib.Core.Bool.{cond}
 use mathlib.Core.List.{List}

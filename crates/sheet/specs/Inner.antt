@@ -1,4 +1,4 @@
--- Definitions for contracts of inner functions alone, which no claim and no call's promise reaches: the sheet of the tasks in
+-- Definitions for contracts of functions that are no calls, which no claim and no call's promise reaches: the sheet of the tasks in
 -- the table as an observer sees them, and its lines.
 use Prim.Native.Nat.{ℕ}
 use mathlib.Core.List.{List, _++_}

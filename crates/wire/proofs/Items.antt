@@ -8,9 +8,9 @@ use native.Mathlib.Numerals.{add-one}
 use native.Mathlib.Omega.{arith}
 use lib.ListN.{length, getD, take, drop, length-append, length-drop, drop-of-length-le}
 use lib.Seq.{take-add, drop-at, drop-drop, drop-cons}
-use Rattle.wire.specs.Lists.{Every, keep, IsByte, Bytes}
+use Rattle.wire.specs.Lists.{Every, keep, Bytes}
+use Rattle.wire.proofs.Lists.{IsByte, split, every-drop, every-append}
 use Rattle.wire.specs.Items.{decodeItems, encodeItems}
-use Rattle.wire.proofs.Lists.{split, every-drop, every-append}
 
 module _ {A : Type 0} (w : ℕ) (f : List ℕ → A) where
   pub length-decode : (k : ℕ) (b : List ℕ) → length (decodeItems w f k b) ≡ k

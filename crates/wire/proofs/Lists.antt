@@ -10,7 +10,7 @@ use native.Mathlib.Numerals.{add-one}
 use native.Mathlib.Omega.{arith}
 use lib.ListN.{length, getD, set, take, drop, length-append, drop-of-length-le}
 use lib.Seq.{take-all, drop-cons, take-suc-set}
-use Rattle.wire.specs.Lists.{each, Every, all, keep, dropFirst, IsByte, Bytes}
+use Rattle.wire.specs.Lists.{each, Every, all, keep, dropFirst, Bytes}
 use Rattle.wire.specs.Inner.{without, firstIndex}
 
 -- ---- cases
@@ -153,6 +153,10 @@ module _ {A : Type 0} (P : A → Type 0) where
   unfolding all
   every-all p f [] h = refl
   every-all p f (x ∷ xs) h = rw (f x (h .0)) (every-all p f xs (h .1))
+
+-- what `Bytes` says of each element
+abbrev pub IsByte : ℕ → Type 0
+IsByte x = x < 256
 
 pub byte-at : (s : List ℕ) → Bytes s → (i : ℕ) → getD s i 0 < 256
 byte-at s h i = every-at IsByte 0 (omega arith) s h i

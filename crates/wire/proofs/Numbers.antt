@@ -8,9 +8,9 @@ use native.Mathlib.Nat.{pow-suc, mod-lt}
 use native.Mathlib.Omega.{arith}
 use lib.ListN.{length, getD, take, length-append}
 use lib.Seq.{take-suc, getD-at}
-use Rattle.wire.specs.Lists.{IsByte, Bytes}
+use Rattle.wire.specs.Lists.{Bytes}
+use Rattle.wire.proofs.Lists.{IsByte, byte-at, every-append}
 use Rattle.wire.specs.Numbers.{decodeNumber, encodeNumber}
-use Rattle.wire.proofs.Lists.{byte-at, every-append}
 
 pub encode-decode : (w : ℕ) (s : List ℕ) → Bytes s → w ≤ length s → encodeNumber w (decodeNumber w s) ≡ take w s
 encode-decode zero s h l = refl

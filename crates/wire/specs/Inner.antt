@@ -1,4 +1,4 @@
--- Definitions for contracts of inner functions alone: no claim and no call's promise reaches them.
+-- Definitions for contracts of functions that are no calls: no claim and no call's promise reaches them.
 use Prim.Native.Nat.{ℕ, suc}
 use mathlib.Core.Bool.{Bool, cond}
 use mathlib.Core.List.{List, [], _∷_, _++_}

@@ -34,9 +34,6 @@ module _ {A : Type 0} where
   dropFirst p [] = []
   dropFirst p (x ∷ xs) = cond (p x) xs (x ∷ dropFirst p xs)
 
--- x is a byte, and every element of a list is
-abbrev pub IsByte : ℕ → Type 0
-IsByte x = x < 256
-
+-- every element is a byte
 abbrev pub Bytes : List ℕ → Type 0
-Bytes = Every IsByte
+Bytes = Every (λ x. x < 256)

@@ -2,6 +2,7 @@
 use borrow.Author.Tests.{lt-leb, le-leb}
 use native.Mathlib.Omega.{arith}
 use Rattle.image.specs.Refusal.{programNumber}
+use Rattle.image.proofs.Refusal.{instructions-number}
 use Rattle.image.proofs.program_number.Statement.{statement}
 use Rattle.image.proofs.program_number.Tie as tie
 
@@ -20,6 +21,7 @@ unfolding programNumber
 returns-3 c =
     let d = c .before .before .before .before .before in
     rw (
+      instructions-number,
       ← c .before .before .program .ensures,
       ← c .before .all-legal .ensures,
       le-leb _ _ (d .before .before .if1 .left),

@@ -2,8 +2,7 @@
 use borrow.Author.Needs.{needs}
 use mathlib.Core.Path.{_∙_}
 use denote.Ref.{now}
-use Rattle.wire.specs.Lists.{IsByte}
-use Rattle.wire.proofs.Lists.{every-of}
+use Rattle.wire.proofs.Lists.{IsByte, every-of}
 use Rattle.monitor.proofs.Pipeline.{view-rewrites}
 use Rattle.monitor.proofs.rewrite.Statement.{statement}
 use Rattle.monitor.proofs.rewrite.Tie as tie

@@ -6,8 +6,8 @@ use mathlib.Core.List.{List}
 use native.Mathlib.Omega.{arith}
 use borrow.Author.Tests.{le-leb, lt-leb}
 use denote.Ref.{now}
-use Rattle.wire.specs.Lists.{IsByte, Bytes}
-use Rattle.wire.proofs.Lists.{every-of}
+use Rattle.wire.specs.Lists.{Bytes}
+use Rattle.wire.proofs.Lists.{IsByte, every-of}
 use Rattle.machine.specs.State.{State}
 use Rattle.machine.specs.Machine as Machine
 use Rattle.image.specs.Image.{stateOf}

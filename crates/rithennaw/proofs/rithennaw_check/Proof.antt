@@ -1,8 +1,7 @@
 -- `rithennaw::rithennaw_check` meets its contract: the number is the monitor's.
 use borrow.Author.Needs.{needs}
 use denote.Ref.{now}
-use Rattle.wire.specs.Lists.{IsByte}
-use Rattle.wire.proofs.Lists.{every-of}
+use Rattle.wire.proofs.Lists.{IsByte, every-of}
 use Rattle.rithennaw.proofs.rithennaw_check.Statement.{statement}
 use Rattle.rithennaw.proofs.rithennaw_check.Tie as tie
 

@@ -2,8 +2,7 @@
 use borrow.Author.Needs.{needs}
 use mathlib.Core.Path.{refl}
 use denote.Ref.{now}
-use Rattle.wire.specs.Lists.{IsByte}
-use Rattle.wire.proofs.Lists.{every-of}
+use Rattle.wire.proofs.Lists.{IsByte, every-of}
 use Rattle.rithennaw.proofs.rithennaw_turns.Statement.{statement}
 use Rattle.rithennaw.proofs.rithennaw_turns.Tie as tie
 

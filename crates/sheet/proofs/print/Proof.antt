@@ -7,8 +7,8 @@ use mathlib.Core.List.{List}
 use native.Mathlib.Omega.{arith}
 use denote.Ref.{now}
 use lib.ListN.{length, getD, drop}
-use Rattle.wire.specs.Lists.{IsByte, Bytes}
-use Rattle.wire.proofs.Lists.{every-of, every-drop}
+use Rattle.wire.specs.Lists.{Bytes}
+use Rattle.wire.proofs.Lists.{IsByte, every-of, every-drop}
 use Rattle.wire.proofs.Output.{rest}
 use Rattle.monitor.specs.declared.Answer.{Answer}
 use Rattle.monitor.specs.Calls.{callAnswer, callOutput}

@@ -4,8 +4,7 @@ use mathlib.Core.Path.{_≡_, refl, sym, _∙_}
 use native.Mathlib.Omega.{arith}
 use borrow.Author.Tests.{le-leb, lt-leb}
 use denote.Ref.{now}
-use Rattle.wire.specs.Lists.{IsByte}
-use Rattle.wire.proofs.Lists.{every-of}
+use Rattle.wire.proofs.Lists.{IsByte, every-of}
 use Rattle.image.specs.Image.{stateOf}
 use Rattle.image.specs.Refusal.{imageNumber}
 use Rattle.snapshot.proofs.Loading.{loaded-accepted}

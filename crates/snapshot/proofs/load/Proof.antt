@@ -1,8 +1,7 @@
 -- `snapshot::load` meets its contract: an accepted image is loadable.
 use mathlib.Core.Path.{sym, ap, _∙_}
 use denote.Ref.{now}
-use Rattle.wire.specs.Lists.{IsByte}
-use Rattle.wire.proofs.Lists.{every-of}
+use Rattle.wire.proofs.Lists.{IsByte, every-of}
 use Rattle.image.specs.Image.{slotsOf, stateOf}
 use Rattle.table.specs.Table.{slotsIn}
 use Rattle.snapshot.proofs.Loading.{accepted-loadable, loaded-accepted, loaded-refused}
