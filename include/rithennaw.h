@@ -183,30 +183,42 @@ struct rithennaw_debug_count {
     uint64_t number;
 };
 
+/* Where a pointer points to. C++ has a cast of its own for it, and a host may be compiled with warnings about C's. */
+static inline uintptr_t rithennaw_debug_address(const void *pointer)
+{
+#ifdef __cplusplus
+    return reinterpret_cast<uintptr_t>(pointer);
+#else
+    return (uintptr_t)pointer;
+#endif
+}
+
 static inline int rithennaw_debug_aligned(const void *number, size_t alignment)
 {
-    return (uintptr_t)number % alignment == 0;
+    return rithennaw_debug_address(number) % alignment == 0;
 }
 
 /* Whether two parts of memory have no byte in common. An empty part has none, wherever it is. */
 static inline int rithennaw_debug_apart(const void *one, size_t one_len, const void *other, size_t other_len)
 {
-    const uintptr_t a = (uintptr_t)one, b = (uintptr_t)other;
+    const uintptr_t a = rithennaw_debug_address(one), b = rithennaw_debug_address(other);
     return one_len == 0 || other_len == 0 || (a < b ? b - a >= one_len : a - b >= other_len);
 }
 
-/* What every call that writes is lent. */
-static inline void rithennaw_debug_lent(const uint8_t *image, size_t image_len, const uint8_t *out, size_t out_len,
-                                        const size_t *length)
-{
-    assert(image != NULL);
-    assert(out != NULL);
-    assert(length != NULL);
-    assert(rithennaw_debug_aligned(length, offsetof(struct rithennaw_debug_size, number)));
-    assert(rithennaw_debug_apart(image, image_len, out, out_len));
-    assert(rithennaw_debug_apart(image, image_len, length, sizeof *length));
-    assert(rithennaw_debug_apart(out, out_len, length, sizeof *length));
-}
+/*
+ * What every call that writes is lent, under the names that its parameters have. It is a macro, since an assertion that
+ * fails tells the function that it stands in: so it tells the call.
+ */
+#define RITHENNAW_DEBUG_LENT() \
+    do { \
+        assert(image != NULL); \
+        assert(out != NULL); \
+        assert(length != NULL); \
+        assert(rithennaw_debug_aligned(length, offsetof(struct rithennaw_debug_size, number))); \
+        assert(rithennaw_debug_apart(image, image_len, out, out_len)); \
+        assert(rithennaw_debug_apart(image, image_len, length, sizeof *length)); \
+        assert(rithennaw_debug_apart(out, out_len, length, sizeof *length)); \
+    } while (0)
 
 static inline uint8_t rithennaw_debug_check(const uint8_t *image, size_t image_len)
 {
@@ -231,14 +243,14 @@ static inline void rithennaw_debug_record(const uint8_t *image, size_t image_len
 static inline uint8_t rithennaw_debug_rewrite(const uint8_t *image, size_t image_len, uint8_t *out, size_t out_len,
                                               size_t *length)
 {
-    rithennaw_debug_lent(image, image_len, out, out_len, length);
+    RITHENNAW_DEBUG_LENT();
     return rithennaw_rewrite(image, image_len, out, out_len, length);
 }
 
 static inline uint8_t rithennaw_debug_turns(const uint8_t *image, size_t image_len, uint64_t count, uint8_t *out,
                                             size_t out_len, size_t *length, uint64_t *busy)
 {
-    rithennaw_debug_lent(image, image_len, out, out_len, length);
+    RITHENNAW_DEBUG_LENT();
     assert(busy != NULL);
     assert(rithennaw_debug_aligned(busy, offsetof(struct rithennaw_debug_count, number)));
     assert(rithennaw_debug_apart(image, image_len, busy, sizeof *busy));
@@ -250,14 +262,14 @@ static inline uint8_t rithennaw_debug_turns(const uint8_t *image, size_t image_l
 static inline uint8_t rithennaw_debug_view(const uint8_t *image, size_t image_len, uint32_t observer, uint8_t *out,
                                            size_t out_len, size_t *length)
 {
-    rithennaw_debug_lent(image, image_len, out, out_len, length);
+    RITHENNAW_DEBUG_LENT();
     return rithennaw_view(image, image_len, observer, out, out_len, length);
 }
 
 static inline uint8_t rithennaw_debug_sheet(const uint8_t *image, size_t image_len, uint32_t observer, uint8_t *out,
                                             size_t out_len, size_t *length)
 {
-    rithennaw_debug_lent(image, image_len, out, out_len, length);
+    RITHENNAW_DEBUG_LENT();
     return rithennaw_sheet(image, image_len, observer, out, out_len, length);
 }
 

@@ -1,6 +1,7 @@
 /*
  * The header's debug aid. With RITHENNAW_DEBUG, calls that are lent what the header asks for tell what they tell without it,
- * and each fault that the aid can see ends a child process by SIGABRT, with the assertion that names it. C99 and C++11.
+ * and each fault that the aid can see ends a child process by SIGABRT, with the assertion that names it, and with the call's
+ * name. C99 and C++11.
  */
 #define _XOPEN_SOURCE 700
 #include <signal.h>
@@ -109,11 +110,15 @@ static unsigned sheet(const struct lent *lent)
                            (size_t)lent->field[OUT_LEN], (size_t *)place(lent, LENGTH));
 }
 
-/* The calls that write stand last. */
-static const struct {
+/* Each with the function that asserts, as a failing assertion names it. The calls that write stand last. */
+struct call {
     const char *name;
     unsigned (*make)(const struct lent *lent);
-} calls[] = {{"check", check}, {"record", record}, {"rewrite", rewrite}, {"turns", turns}, {"view", view}, {"sheet", sheet}};
+};
+static const struct call calls[] = {
+    {"rithennaw_debug_check", check}, {"rithennaw_debug_record", record}, {"rithennaw_debug_rewrite", rewrite},
+    {"rithennaw_debug_turns", turns}, {"rithennaw_debug_view", view}, {"rithennaw_debug_sheet", sheet}
+};
 enum { CHECK = 1, RECORD = 2, WRITING = 4 + 8 + 16 + 32, TURNS = 8, CALLS = 6 };
 
 /* ---- calls as the header asks for them */
@@ -150,8 +155,8 @@ static void try_good(void)
 
 /* ---- faults */
 
-/* Whether the call is aborted in a child process, which says the assertion on standard error. */
-static int is_aborted(unsigned (*make)(const struct lent *lent), const struct lent *lent, const char *assertion)
+/* Whether the call is aborted in a child process, which says the call and the assertion on standard error. */
+static int is_aborted(const struct call *call, const struct lent *lent, const char *assertion)
 {
     char said[1024];
     size_t said_len = 0;
@@ -163,7 +168,7 @@ static int is_aborted(unsigned (*make)(const struct lent *lent), const struct le
     }
     if (child == 0) {
         dup2(ends[1], STDERR_FILENO);
-        make(lent);
+        call->make(lent);
         _exit(0);
     }
     close(ends[1]);
@@ -173,7 +178,7 @@ static int is_aborted(unsigned (*make)(const struct lent *lent), const struct le
     said[said_len] = '\0';
     close(ends[0]);
     return waitpid(child, &status, 0) == child && WIFSIGNALED(status) && WTERMSIG(status) == SIGABRT
-           && strstr(said, assertion) != NULL;
+           && strstr(said, call->name) != NULL && strstr(said, assertion) != NULL;
 }
 
 /* Each of those calls is aborted. */
@@ -183,7 +188,7 @@ static void aborts(const char *assertion, unsigned which, struct lent lent)
     for (i = 0; i < CALLS; i++) {
         if ((which >> i & 1) != 0) {
             make_image();
-            expect(is_aborted(calls[i].make, &lent, assertion), calls[i].name, assertion);
+            expect(is_aborted(&calls[i], &lent, assertion), calls[i].name, assertion);
         }
     }
 }
