@@ -14,8 +14,10 @@
  * length beside it is 0; nothing is read or written through it then. What `out`, `start`, `length` and `busy` point to
  * beforehand does not matter. The image, the output and the numbers pointed to must not overlap, one with another.
  * Where RITHENNAW_DEBUG is defined ahead of this header, each call first asserts, by assert.h, that no pointer is null, that
- * the numbers are aligned and that nothing overlaps. It is an aid to find such faults and no proof that there are none:
- * whether memory is valid, and the image's bytes set, cannot be seen at run time.
+ * the numbers are aligned and that nothing overlaps; where NDEBUG is defined too, it asserts nothing. So RITHENNAW_DEBUG
+ * belongs into builds without NDEBUG, and on the compiler's command line: behind an earlier include of this header it comes
+ * too late. It is an aid to find such faults and no proof that there are none: whether memory is valid, and the image's
+ * bytes set, cannot be seen at run time.
  *
  * Threads and memory. There are no globals, nothing is allocated and nothing is kept between calls. Any number of threads
  * may call at a time, also on one image, as long as no thread writes what another call is lent, or reads what it may write.
@@ -167,10 +169,7 @@ uint8_t rithennaw_view(const uint8_t *image, size_t image_len, uint32_t observer
 uint8_t rithennaw_sheet(const uint8_t *image, size_t image_len, uint32_t observer, uint8_t *out, size_t out_len,
                         size_t *length);
 
-/*
- * The debug aid: the name of each function above is made to stand for one that asserts first and then calls it. Where NDEBUG
- * is defined too, there is nothing to assert, and the names stay as they are.
- */
+/* The debug aid: the name of each function above is made to stand for one that asserts first and then calls it. */
 #if defined RITHENNAW_DEBUG && !defined NDEBUG
 
 /* Behind a byte a number stands as far as its alignment is. */
