@@ -266,7 +266,7 @@ static void try_check(void)
     checks_as("check of no bytes", &empty, RITHENNAW_REFUSED_SHORT);
     checks_changed("check of version 2", 0, 2, RITHENNAW_REFUSED_VERSION);
     checks_changed("check of a program of 17 bytes", 2, 17, RITHENNAW_REFUSED_PROGRAM_LENGTH);
-    checks_changed("check of an instruction 13", 3, 13, RITHENNAW_REFUSED_INSTRUCTION);
+    checks_changed("check of an instruction 255", 3, 255, RITHENNAW_REFUSED_INSTRUCTION);
     checks_changed("check of turn slot 16", TURN_SLOT_AT, 16, RITHENNAW_REFUSED_TURN_SLOT);
     checks_changed("check of a record of 38 bytes", SLOT_0_AT + 1, 38, RITHENNAW_REFUSED_RECORD_LENGTH);
     checks_changed("check of kind 6", SLOT_0_AT + 2, 6, RITHENNAW_REFUSED_TASK_FIELD);

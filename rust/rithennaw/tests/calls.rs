@@ -115,7 +115,7 @@ fn an_image_that_breaks_a_rule_is_refused_by_every_call() {
     refused(&image[..image.len() - 1], Refusal::Short);
     refused(&changed(0, 2), Refusal::Version);
     refused(&changed(2, 9), Refusal::ProgramLength);
-    refused(&changed(3, 13), Refusal::Instruction);
+    refused(&changed(3, 255), Refusal::Instruction);
     refused(&changed(11, 16), Refusal::TurnSlot);
     refused(&changed(13, 36), Refusal::RecordLength);
     refused(&changed(14, 6), Refusal::TaskField);
