@@ -347,28 +347,36 @@ static void try_sheet(void)
 
 /* ---- what the header has beside the archive's functions */
 
-/* The number's text is a sentence, and another one than those of the numbers below it. */
-static int has_own_sentence(unsigned number)
+static int has_text(uint8_t number, const char *text)
 {
-    const char *text = rithennaw_refusal_text((uint8_t)number);
-    unsigned below;
+    return strcmp(rithennaw_refusal_text(number), text) == 0;
+}
+
+/* The sentence of every number that no call returns. */
+static const char of_no_call[] = "No call of this version returns this number.";
+
+/* The number's text is a sentence, and another one than those of the numbers below it and of no call. */
+static int has_own_sentence(uint8_t number)
+{
+    const char *text = rithennaw_refusal_text(number);
+    uint8_t below;
     for (below = 0; below < number; below++) {
-        if (strcmp(text, rithennaw_refusal_text((uint8_t)below)) == 0) {
+        if (has_text(below, text)) {
             return 0;
         }
     }
-    return text[0] >= 'A' && text[0] <= 'Z' && text[strlen(text) - 1] == '.';
+    return !has_text(number, of_no_call) && text[0] >= 'A' && text[0] <= 'Z' && text[strlen(text) - 1] == '.';
 }
 
 static void try_texts(void)
 {
-    unsigned number;
+    uint8_t number;
     for (number = RITHENNAW_ACCEPTED; number <= RITHENNAW_REFUSED_OUTPUT; number++) {
-        expect(has_own_sentence(number), rithennaw_refusal_text((uint8_t)number));
+        expect(has_own_sentence(number), rithennaw_refusal_text(number));
     }
-    expect(has_own_sentence(RITHENNAW_REFUSED_OUTPUT + 1), "a number that no call returns has no sentence of its own");
-    expect(strcmp(rithennaw_refusal_text(RITHENNAW_REFUSED_OUTPUT + 1), rithennaw_refusal_text(UINT8_MAX)) == 0,
-           "two numbers that no call returns have two sentences");
+    /* far above the last number, so that a new one moves neither */
+    expect(has_text(200, of_no_call), "the sentence of 200");
+    expect(has_text(255, of_no_call), "the sentence of 255");
 }
 
 /* LIBRARY_VERSION is what the file VERSION has. */
