@@ -41,11 +41,24 @@ fn image_b() {
     assert_eq!(image(B), Ok(b()));
 }
 
+/// An instruction's word gives its code and the operands behind it.
+fn expect_code(word: &str, code: u8) {
+    let bytes = image(&format!("program\n{word} 1 20 255\n")).unwrap();
+    assert_eq!(bytes[..7], [1, 0, 4, code, 1, 20, 255], "{word}");
+}
+
 #[test]
-fn every_word_has_its_code() {
+fn every_word_of_the_table_gives_the_code_beside_it() {
     for Row { word, code, .. } in TABLE {
-        let bytes = image(&format!("program\n{word} 1 20 255\n")).unwrap();
-        assert_eq!(bytes[..7], [1, 0, 4, *code, 1, 20, 255], "{word}");
+        expect_code(word, *code);
+    }
+}
+
+/// A few of 01's rows, written out; layout compares its whole table with them.
+#[test]
+fn words_of_01_give_its_codes() {
+    for (word, code) in [("end", 0x00), ("subtract", 0x04), ("sandbox", 0x0b), ("self", 0x0c)] {
+        expect_code(word, code);
     }
 }
 

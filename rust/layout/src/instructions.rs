@@ -66,6 +66,28 @@ impl Operand {
 mod tests {
     use super::TABLE;
 
+    /// Written out from 01's table: what reads `TABLE` would follow a wrong word or code.
+    #[test]
+    fn codes_and_words_are_those_of_01_in_its_order() {
+        let rows: Vec<(u8, &str)> = TABLE.iter().map(|row| (row.code, row.word)).collect();
+        let should = [
+            (0x00, "end"),
+            (0x01, "set"),
+            (0x02, "copy"),
+            (0x03, "add"),
+            (0x04, "subtract"),
+            (0x05, "go"),
+            (0x06, "zero"),
+            (0x07, "raise"),
+            (0x08, "send"),
+            (0x09, "take"),
+            (0x0a, "poll"),
+            (0x0b, "sandbox"),
+            (0x0c, "self"),
+        ];
+        assert_eq!(rows, should);
+    }
+
     #[test]
     fn a_code_is_its_index() {
         for (index, row) in TABLE.iter().enumerate() {
