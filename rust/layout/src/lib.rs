@@ -8,6 +8,9 @@ pub mod instructions;
 /// The number of slots.
 pub const SLOTS: usize = 16;
 
+/// Where the registers of a record begin, behind kind, label, spare and place.
+pub const REGISTERS_AT: usize = 5;
+
 /// The bytes of a record without messages, and of a message.
 pub const TASK_LENGTH: usize = 37;
 pub const MESSAGE_LENGTH: usize = 6;

@@ -1,6 +1,7 @@
 //! Each example run through the monitor, and what the page says compared with what the monitor gives.
 
 use imagetext::Fault;
+use layout::{REGISTERS_AT, TASK_LENGTH};
 use rithennaw::{record, sheet, turns, view, Refusal};
 
 use crate::example::{examples, Instruction, Register, Sheet};
@@ -75,6 +76,6 @@ fn instructions(image: &[u8]) -> impl Iterator<Item = &[u8]> {
 
 /// The eight registers of a record; none where the slot is unused.
 fn registers(record: &[u8]) -> impl Iterator<Item = u32> + '_ {
-    let bytes = record.get(5..37).unwrap_or_default();
+    let bytes = record.get(REGISTERS_AT..TASK_LENGTH).unwrap_or_default();
     bytes.chunks(4).map(|register| register.iter().fold(0, |value, byte| value << 8 | u32::from(*byte)))
 }
