@@ -47,7 +47,7 @@ short n b = unless (leb n (length b)) 3
 unfoldable pub versionNumber : List ℕ → ℕ
 versionNumber b = short 1 b then unless (eqb (getD b 0 0) 1) 4
 
--- 6 instruction: not in the table, or an operand outside it
+-- 6 instruction, behind 5 in `programNumber`: not in the table, or an operand outside it
 abbrev pub decodedNumber : Decoded → ℕ
 decodedNumber (Legal i) = 0
 decodedNumber Illegal = 6
@@ -114,6 +114,7 @@ imageNumber b =
     then tailNumber b
     then estateNumber b
 
--- a call's number, given that of its argument, 0 where it is within its limit or there is none; 13 output: output shorter than the answer
+-- a call's number, given that of its argument, 0 where it is within its limit or there is none;
+-- 13 output: output shorter than the answer
 abbrev pub firstMet : ℕ → List ℕ → List ℕ → List ℕ → ℕ
 firstMet argument image answer out = argument then imageNumber image then unless (leb (length answer) (length out)) 13
