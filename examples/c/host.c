@@ -5,6 +5,9 @@
  *     cc -std=c99 host.c $(pkg-config --cflags --libs rithennaw) -o host
  *     ./host IMAGE TURNS [OBSERVER...]
  *
+ * Where the monitor was installed below another PREFIX than /usr/local, pkg-config needs
+ * PKG_CONFIG_PATH=PREFIX/lib/pkgconfig.
+ *
  * An observer is a label. Without one these are shown: the public (0), each of the four owners (1, 2, 4, 8) and the host
  * (15). Exit status: 0; 1 where the monitor refuses a call; 2 where the arguments are wrong, the file cannot be read or
  * the output cannot be written.

@@ -16,6 +16,7 @@ use Rattle.wire.proofs.Lists.{IsByte, split, length-nil, take-length-take, ever
 use Rattle.wire.specs.Numbers.{decodeNumber, encodeNumber}
 use Rattle.wire.proofs.Numbers.{encode-decode, decode-encode, encode-bytes}
 use Rattle.instruction.specs.Program.{count, allLegal}
+use Rattle.machine.specs.Limits.{highestSlot, shortestImage, longestImage}
 use Rattle.machine.specs.State.{State, slotAt}
 use Rattle.machine.specs.Valid.{isProgramLength, sparesUnused, ValidSlot, Valid}
 use Rattle.machine.proofs.Rules.{size-facts}
@@ -47,7 +48,7 @@ record InOrder (b : List ℕ) : Type 0 where
   pub size : isProgramLength (programLength b) ≡ true
   pub legal : allLegal (programOf b) ≡ true
   pub ahead : slotsAt b ≤ length b
-  pub turnSlot : leb (turnSlotOf b) 15 ≡ true
+  pub turnSlot : leb (turnSlotOf b) highestSlot ≡ true
   pub slots : slotsNumber 16 0 (count (programOf b)) (slotsPart b) ≡ 0
   pub tail : skip 16 (slotsPart b) ≡ []
   pub spares : sparesUnused (slotsOf 16 (slotsPart b)) ≡ true
@@ -69,7 +70,7 @@ in-order b e =
       size = unless-none (isProgramLength (programLength b)) 4 (then-left _ _ p₂);
       legal = unless-none (allLegal (programOf b)) 5 (sym (instructions-number (programOf b)) ∙ p₄);
       ahead = short-none (slotsAt b) b (then-left _ _ t₂);
-      turnSlot = unless-none (leb (turnSlotOf b) 15) 6 (then-right (short (slotsAt b) b) _ t₂);
+      turnSlot = unless-none (leb (turnSlotOf b) highestSlot) 6 (then-right (short (slotsAt b) b) _ t₂);
       slots = then-left _ _ s;
       tail = length-nil _ (eqb-true _ _ (unless-none (eqb (length (skip 16 (slotsPart b))) 0) 10 (then-left (tailNumber b) _ r)));
       spares = unless-none (sparesUnused (slotsOf 16 (slotsPart b))) 11 (then-right (tailNumber b) _ r);
@@ -80,7 +81,7 @@ module _ (b : List ℕ) (e : imageNumber b ≡ 0) where
   program-size = length-take-le (programLength b) (drop 3 b) (rw length-drop (omega (arith, in-order b e .ahead)))
 
   -- the shortest image has 40 bytes, the longest 7,796
-  pub accepted-length : (40 ≤ length b) × (length b ≤ 7796)
+  pub accepted-length : (shortestImage ≤ length b) × (length b ≤ longestImage)
   unfolding slotsPart
   accepted-length =
       let a = in-order b e in
@@ -184,7 +185,7 @@ module _ (s : State) (ok : Valid s) where
       let tail = s .turnSlot ∷ slotsBytes (s .slots) in
       let slots = slots-bytes (count (s .program)) few 0 (s .slots) tasks-from-0 in
       let front = every-append IsByte head (s .program) (encode-bytes 2 (length (s .program))) (ok .bytes) in
-      (omega arith, every-append IsByte (head ++ s .program) tail front (omega (arith, leb-true (s .turnSlot) 15 (ok .turnSlot)), slots))
+      (omega arith, every-append IsByte (head ++ s .program) tail front (omega (arith, leb-true (s .turnSlot) highestSlot (ok .turnSlot)), slots))
 
   slots-read : slotsOf 16 (slotsBytes (s .slots)) ≡ s .slots
   slots-read = ap (λ (k : ℕ). slotsOf k (slotsBytes (s .slots))) (sym (ok .slotCount)) ∙ slots-forth (count (s .program)) few 0 (s .slots) tasks-from-0
@@ -249,7 +250,7 @@ image-listed b =
     then-holds Listed (versionNumber b) _ (then-holds Listed (short 1 b) _ (listed-short 1 b) (listed-unless (eqb (getD b 0 0) 1) 4 (omega arith) (omega arith)))
     (then-holds Listed (programNumber b) _ (program-listed b)
     (then-holds Listed (turnSlotNumber b) _
-    (then-holds Listed (short (slotsAt b) b) _ (listed-short (slotsAt b) b) (listed-unless (leb (turnSlotOf b) 15) 7 (omega arith) (omega arith)))
+    (then-holds Listed (short (slotsAt b) b) _ (listed-short (slotsAt b) b) (listed-unless (leb (turnSlotOf b) highestSlot) 7 (omega arith) (omega arith)))
     (then-holds Listed (slotsNumber 16 0 n (slotsPart b)) _ (slots-listed 16 0 n (slotsPart b))
     (then-holds Listed (tailNumber b) _ (listed-unless (eqb (length (skip 16 (slotsPart b))) 0) 11 (omega arith) (omega arith))
     (listed-unless (sparesUnused (slotsOf 16 (slotsPart b))) 12 (omega arith) (omega arith))))))
@@ -267,16 +268,16 @@ unfolding recordStart
 record-at-start b s = sym (drop-drop 2 (slotsAt b + span s (slotsPart b)) b) ∙ ap (drop 2) (slots-behind b s)
 
 -- it is what the slot's task is written as
-pub record-part : (b : List ℕ) (s : ℕ) → Bytes b → imageNumber b ≡ 0 → s ≤ 15 → recordPart b s ≡ recordBytes (slotAt (stateOf b .slots) s)
+pub record-part : (b : List ℕ) (s : ℕ) → Bytes b → imageNumber b ≡ 0 → s ≤ highestSlot → recordPart b s ≡ recordBytes (slotAt (stateOf b .slots) s)
 unfolding recordPart stateOf slotsPart
 record-part b s h e l =
-    rw (le-leb s 15 l, e, record-at-start b s, slot-at 16 s (slotsPart b) (omega arith))
+    rw (le-leb s highestSlot l, e, record-at-start b s, slot-at 16 s (slotsPart b) (omega arith))
     (sym (record-at 16 s 0 (count (programOf b)) (slotsPart b) (every-drop IsByte (slotsAt b) b h) (in-order b e .slots) (omega arith)))
 
 -- a slot above 15 has none, nor has a refused image
-pub record-above : (b : List ℕ) (s : ℕ) → (s ≤ 15 → ⊥) → recordPart b s ≡ []
+pub record-above : (b : List ℕ) (s : ℕ) → (s ≤ highestSlot → ⊥) → recordPart b s ≡ []
 unfolding recordPart
-record-above b s h = split (leb s 15) (λ e. absurd (h (leb-true s 15 e))) (λ e. rw e)
+record-above b s h = split (leb s highestSlot) (λ e. absurd (h (leb-true s highestSlot e))) (λ e. rw e)
 
 pub record-refused : (b : List ℕ) (s : ℕ) → (imageNumber b ≡ 0 → ⊥) → recordPart b s ≡ []
 unfolding recordPart
@@ -286,7 +287,7 @@ record-refused b s h = rw (ne-eqb (imageNumber b) 0 h, and-false)
 pub record-inside : (b : List ℕ) (s : ℕ) → recordPart b s ≡ take (length (recordPart b s)) (drop (recordStart b s) b)
 unfolding recordPart
 record-inside b s =
-    split (leb s 15 && eqb (imageNumber b) 0)
+    split (leb s highestSlot && eqb (imageNumber b) 0)
     (λ e. rw e (take-length-take (recordLength (skip s (slotsPart b))) (drop (recordStart b s) b)))
     (λ e. rw e)
 
@@ -300,14 +301,14 @@ record-within b s h =
 -- it is at the front of the bytes from its slot on, behind its length
 pub record-front : (b : List ℕ) (s : ℕ) → recordPart b s ≡ recordOf (fromSlot b s)
 unfolding recordPart fromSlot recordLength
-record-front b s = split (leb s 15 && eqb (imageNumber b) 0) (λ e. rw (e, record-at-start b s)) (λ e. rw e)
+record-front b s = split (leb s highestSlot && eqb (imageNumber b) 0) (λ e. rw (e, record-at-start b s)) (λ e. rw e)
 
 -- and starts behind the bytes ahead of these and its length
 record-start : (b : List ℕ) (s : ℕ) → length (recordPart b s) ≢ 0
     → (length (fromSlot b s) ≤ length b) × (length b - length (fromSlot b s) + 2 ≡ recordStart b s)
 unfolding recordStart recordPart fromSlot
 record-start b s h =
-    split (leb s 15 && eqb (imageNumber b) 0)
+    split (leb s highestSlot && eqb (imageNumber b) 0)
     (λ e. rw (e, ← slots-behind b s, length-drop) (let w = record-within b s h in (omega arith, omega arith)))
     (λ e. absurd (h (rw e)))
 

@@ -13,6 +13,7 @@ use Rattle.wire.specs.Output.{overwrite}
 use Rattle.wire.specs.Inner.{written}
 use Rattle.wire.proofs.Lists.{split}
 use Rattle.wire.proofs.Output.{take-overwrite, drop-overwrite, length-overwrite, length-written}
+use Rattle.machine.specs.Limits.{highestLabel}
 use Rattle.image.specs.Refusal.{observerNumber, _then_, unless, imageNumber}
 use Rattle.image.proofs.Refusal.{then-stop, then-left, then-right, then-holds, unless-holds, unless-none, unless-given, Listed, listed-not}
 use Rattle.image.proofs.Image.{image-listed}
@@ -55,7 +56,7 @@ then-output (suc a) i t argument listed e = absurd (omega arith)
 
 -- an observer has number 0 or 1
 pub observer-low : (v : ℕ) → observerNumber v ≤ 2
-observer-low v = unless-holds (λ x. x ≤ 2) (leb v 15) 1 (omega arith) (omega arith)
+observer-low v = unless-holds (λ x. x ≤ 2) (leb v highestLabel) 1 (omega arith) (omega arith)
 
 -- ---- a call by its number
 
@@ -172,7 +173,7 @@ module _ (c : Call) (out : List ℕ) where
   observer-listed v e =
       let i = image-listed (c .image) in
       number-holds (λ x. (x ≤ 13) × (x ≢ 2))
-      (rw e (unless-holds (λ x. (x ≤ 13) × (x ≢ 2)) (leb v 15) 1 (omega arith, λ z. omega arith) (omega arith, λ z. omega arith)))
+      (rw e (unless-holds (λ x. (x ≤ 13) × (x ≢ 2)) (leb v highestLabel) 1 (omega arith, λ z. omega arith) (omega arith, λ z. omega arith)))
       (omega (arith, i .most), listed-not _ 2 i (omega arith) (omega arith)) (omega arith, λ z. omega arith) (omega arith, λ z. omega arith)
 
   -- ---- a call whose argument is beyond its limit

@@ -9,6 +9,7 @@ use lib.Dec.{leb}
 use lib.ListN.{length}
 use Rattle.wire.specs.Output.{overwrite}
 use Rattle.wire.proofs.Lists.{length-nil}
+use Rattle.machine.specs.Limits.{highestLabel, longestImage, turnLimit}
 use Rattle.machine.specs.State.{State}
 use Rattle.machine.specs.Valid.{Valid}
 use Rattle.machine.specs.View.{viewBy}
@@ -35,26 +36,26 @@ numbers-are-listed image out =
           (omega arith, λ e. omega arith, λ e. omega arith) (omega (arith, i .most), not-1, not-2)
           (omega arith, λ e. omega arith, λ e. omega arith) (omega arith, λ e. omega arith, λ e. omega arith),
       λ n. number-holds (turnsCall n image) out (λ x. (x ≤ 13) × (x ≢ 1))
-          (unless-holds (λ x. (x ≤ 13) × (x ≢ 1)) (leb n 1000000) 2 (omega arith, λ e. omega arith) (omega arith, λ e. omega arith))
+          (unless-holds (λ x. (x ≤ 13) × (x ≢ 1)) (leb n turnLimit) 2 (omega arith, λ e. omega arith) (omega arith, λ e. omega arith))
           (omega (arith, i .most), not-1) (omega arith, λ e. omega arith) (omega arith, λ e. omega arith),
       λ v. observer-listed (viewCall v image) out v refl,
     )
 
 pub limits-are-refused : LimitsAreRefused
 limits-are-refused image out = (
-  λ v. limit-exactly (viewCall v image) out v 15 1 refl (omega arith) (omega arith),
-  λ n. limit-exactly (turnsCall n image) out n 1000000 2 refl (omega arith) (omega arith),
+  λ v. limit-exactly (viewCall v image) out v highestLabel 1 refl (omega arith) (omega arith),
+  λ n. limit-exactly (turnsCall n image) out n turnLimit 2 refl (omega arith) (omega arith),
 )
 
 pub none-in-any-other-event : NoneInAnyOtherEvent
 none-in-any-other-event image out = (
   numbers-by-cause (rewriteCall image) out (omega arith),
-  λ n. numbers-by-cause (turnsCall n image) out (unless-holds (λ x. x ≤ 2) (leb n 1000000) 2 (omega arith) (omega arith)),
+  λ n. numbers-by-cause (turnsCall n image) out (unless-holds (λ x. x ≤ 2) (leb n turnLimit) 2 (omega arith) (omega arith)),
   λ v. numbers-by-cause (viewCall v image) out (observer-low v),
 )
 
 -- a valid state's image has at most 7,796 bytes
-room : (s : State) → Valid s → (out : List ℕ) → 7796 ≤ length out → length (imageBytes s) ≤ length out
+room : (s : State) → Valid s → (out : List ℕ) → longestImage ≤ length out → length (imageBytes s) ≤ length out
 room s ok out h = omega (arith, accepted-length (imageBytes s) (written-accepted s ok .number))
 
 pub others-are-accepted : OthersAreAccepted
@@ -62,8 +63,8 @@ others-are-accepted image out a h =
     let s = stateOf image in
     let ok = read-valid image a in (
       accepted-exactly (rewriteCall image) out .1 (refl, a .number, room s ok out h),
-      λ n l. accepted-exactly (turnsCall n image) out .1 (rw (le-leb n 1000000 l), a .number, room (turns n s) (turns-valid n s ok) out h),
-      λ v l. accepted-exactly (viewCall v image) out .1 (rw (le-leb v 15 l), a .number, room (view v s) (view-valid v s ok) out h),
+      λ n l. accepted-exactly (turnsCall n image) out .1 (rw (le-leb n turnLimit l), a .number, room (turns n s) (turns-valid n s ok) out h),
+      λ v l. accepted-exactly (viewCall v image) out .1 (rw (le-leb v highestLabel l), a .number, room (view v s) (view-valid v s ok) out h),
     )
 
 pub calls-write-their-answer : CallsWriteTheirAnswer

@@ -7,6 +7,7 @@ use native.Mathlib.Omega.{arith}
 use borrow.Author.Tests.{le-leb, eqb-true}
 use lib.ListN.{length, take, replicate, length-replicate}
 use Rattle.wire.proofs.Lists.{split}
+use Rattle.machine.specs.Limits.{highestLabel}
 use Rattle.machine.specs.State.{State}
 use Rattle.machine.specs.Turn as Turn
 use Rattle.machine.specs.Valid.{Valid}
@@ -33,9 +34,9 @@ written-accepted s ok = record { bytes = image-bytes s ok; number = image-accept
 
 -- ---- equal views are equal bytes
 
-module _ (v : ℕ) (seen : v ≤ 15) where
+module _ (v : ℕ) (seen : v ≤ highestLabel) where
   observer-none : observerNumber v ≡ 0
-  observer-none = rw (le-leb v 15 seen)
+  observer-none = rw (le-leb v highestLabel seen)
 
   -- the view call for v, given room, writes the view
   view-shown : (image : List ℕ) → Accepted image → (out : List ℕ) → length (viewBytes v image) ≤ length out
@@ -108,7 +109,7 @@ module _ (v : ℕ) (image image′ : List ℕ) (a : Accepted image) (a′ : Acce
       ∙ ap stateOf e
       ∙ image-forth (view v s′) (view-valid v s′ (read-valid image′ a′))
 
-module _ (v : ℕ) (seen : v ≤ 15) (image image′ : List ℕ) (a : Accepted image) (a′ : Accepted image′) (e : viewBytes v image ≡ viewBytes v image′) where
+module _ (v : ℕ) (seen : v ≤ highestLabel) (image image′ : List ℕ) (a : Accepted image) (a′ : Accepted image′) (e : viewBytes v image ≡ viewBytes v image′) where
   -- after the same number of turns they still do
   turns-equal : (n : ℕ) → EqualViews v (imageBytes (turns n (stateOf image))) (imageBytes (turns n (stateOf image′)))
   turns-equal n =

@@ -1,13 +1,14 @@
 -- The claims are about the C functions: the code of each, called with any arguments, keeps its promise, and what it told and
 -- wrote is a call as the claims take it.
 use Prim.Native.Nat.{ℕ}
-use mathlib.Core.Path.{_≡_, sym}
+use mathlib.Core.Path.{_≡_, sym, _∙_}
 use mathlib.Core.List.{List}
 use denote.Ref.{now}
 use Rattle.wire.specs.Lists.{Bytes}
 use Rattle.image.specs.Refusal.{imageNumber}
 use Rattle.image.specs.Part.{recordExtent}
 use Rattle.monitor.specs.Calls.{Call, callAnswer, CallPromise, rewriteCall, turnsCall, viewCall}
+use Rattle.monitor.specs.Claims.{Accepted, Exactly}
 use Rattle.monitor.proofs.Calls.{busy-0}
 use Rattle.monitor.proofs.Keeps.{Keeps, imageOf, slotNumberOf, countOf, observerOf, outputOf, soleOutputOf}
 use Rattle.sheet.specs.Sheet.{sheetCall}
@@ -71,9 +72,14 @@ module _ {M : Type 1} where
       (λ κs a r e. Told (sheetCall (observerOf a) (now (imageOf a))) (now (outputOf a)) r (now (lengthOf e)) (now (outputOf e)))
   rithennaw-sheet-keeps = SheetMet.met
 
--- ---- from what they told to the promise that the claims are about. That number 0 from one of them tells an accepted image is
--- monitor's law `number-0-accepted`, since each that tells a number promises that the image is bytes
+-- ---- from what they told to what the claims are about
 
+-- 0 from `rithennaw_check` tells an accepted image, and only that
+pub check-accepted : (image : List ℕ) {number : ℕ} → (number ≡ imageNumber image) × Bytes image → Exactly (number ≡ 0) (Accepted image)
+check-accepted image told = (λ none. record { bytes = told .1; number = sym (told .0) ∙ none }, λ a. told .0 ∙ a .number)
+
+-- What a call told and wrote keeps the promise. That its number 0 tells an accepted image is monitor's law `number-0-accepted`,
+-- since the call promises that the image is bytes.
 module _ (c : Call) (out : List ℕ) {number length : ℕ} {after : List ℕ} (told : Told c out number length after) where
   -- number, length and busy count are the answer
   pub told-promise : {busy : ℕ} → busy ≡ callAnswer c out .busy → CallPromise c out (record { number = number; length = length; busy = busy }) after

@@ -1,6 +1,7 @@
 -- The claims of specs/Claims.antt hold.
 use mathlib.Core.Path.{refl, sym, ap, _∙_}
 use native.Mathlib.Omega.{arith}
+use Rattle.machine.specs.Limits.{highestLabel}
 use Rattle.monitor.specs.CallList.{finalImage}
 use Rattle.monitor.proofs.Calls.{observer-listed, observer-low, numbers-by-cause, limit-exactly, tell-the-same}
 use Rattle.monitor.proofs.Secrecy.{equal-bytes, states-same}
@@ -13,7 +14,7 @@ pub sheet-numbers-are-listed : SheetNumbersAreListed
 sheet-numbers-are-listed v image out = observer-listed (sheetCall v image) out v refl
 
 pub sheet-limit-is-refused : SheetLimitIsRefused
-sheet-limit-is-refused v image out = limit-exactly (sheetCall v image) out v 15 1 refl (omega arith) (omega arith)
+sheet-limit-is-refused v image out = limit-exactly (sheetCall v image) out v highestLabel 1 refl (omega arith) (omega arith)
 
 pub sheet-numbers-by-cause : SheetNumbersByCause
 sheet-numbers-by-cause v image out = numbers-by-cause (sheetCall v image) out (observer-low v)

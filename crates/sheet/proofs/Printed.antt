@@ -11,6 +11,7 @@ use lib.ListN.{length, getD, drop}
 use Rattle.wire.specs.Lists.{Bytes}
 use Rattle.wire.specs.Output.{overwrite}
 use Rattle.wire.proofs.Lists.{split}
+use Rattle.machine.specs.Limits.{highestLabel, sheetRoom, inputRoom}
 use Rattle.image.specs.Refusal.{_then_, unless, observerNumber, imageNumber}
 use Rattle.image.proofs.Refusal.{then-right, then-stop, then-assoc, then-holds, unless-holds}
 use Rattle.image.proofs.Image.{image-listed}
@@ -21,12 +22,12 @@ use Rattle.sheet.proofs.Sheet.{sheet-fits, refusal-length}
 
 -- ---- an observer byte and an image
 
-module _ (v : ℕ) (image out : List ℕ) (bytes : Bytes image) (room : 318 ≤ length out) where
+module _ (v : ℕ) (image out : List ℕ) (bytes : Bytes image) (room : sheetRoom ≤ length out) where
   -- the first number met ahead of 13
   abbrev met : ℕ
   met = observerNumber v then imageNumber image
 
-  fits : met ≡ 0 → length (sheetBytes v image) ≤ 318
+  fits : met ≡ 0 → length (sheetBytes v image) ≤ sheetRoom
   fits e = sheet-fits v image bytes (then-right (observerNumber v) (imageNumber image) e)
 
   -- 13 is never told
@@ -40,7 +41,7 @@ module _ (v : ℕ) (image out : List ℕ) (bytes : Bytes image) (room : 318 ≤ 
 
   pub printed-accepted : callAnswer (sheetCall v image) out .number ≡ 0
       → (callAnswer (sheetCall v image) out .length ≡ length (printedFor v image)) × (callOutput (sheetCall v image) out ≡ overwrite (printedFor v image) out)
-      × (length (printedFor v image) ≤ 318)
+      × (length (printedFor v image) ≤ sheetRoom)
   unfolding callAnswer callOutput
   printed-accepted e =
       let number = sym (answer-number (sheetCall v image) out) ∙ e in
@@ -55,21 +56,21 @@ module _ (v : ℕ) (image out : List ℕ) (bytes : Bytes image) (room : 318 ≤ 
       let same = answer-number (sheetCall v image) out ∙ told in
       let some = ne-eqb met 0 (λ z. e (same ∙ z)) in
       let most : met < 1000 = then-holds (λ x. x < 1000) (observerNumber v) (imageNumber image)
-      (unless-holds (λ x. x < 1000) (leb v 15) 1 (omega arith) (omega arith)) (omega (arith, image-listed image .most)) in
+      (unless-holds (λ x. x < 1000) (leb v highestLabel) 1 (omega arith) (omega arith)) (omega (arith, image-listed image .most)) in
       (rw (some, same), rw (told, some), rw some (refusal-length met most))
 
 -- ---- standard input
 
-pub printed-long : (input : List ℕ) → 8192 < length input → printed input ≡ refusalLine 11
+pub printed-long : (input : List ℕ) → inputRoom < length input → printed input ≡ refusalLine 11
 unfolding printed
-printed-long input h = rw (lt-leb (length input) 8192 h)
+printed-long input h = rw (lt-leb (length input) inputRoom h)
 
 pub printed-empty : (input : List ℕ) → length input ≡ 0 → printed input ≡ refusalLine 3
 unfolding printed
 printed-empty [] e = refl
 printed-empty (v ∷ image) e = absurd (suc-ne-zero (length image) e)
 
-pub printed-parts : (input : List ℕ) → length input ≤ 8192 → length input ≢ 0 → printed input ≡ printedFor (getD input 0 0) (drop 1 input)
+pub printed-parts : (input : List ℕ) → length input ≤ inputRoom → length input ≢ 0 → printed input ≡ printedFor (getD input 0 0) (drop 1 input)
 unfolding printed
 printed-parts [] h n = absurd (n refl)
-printed-parts (v ∷ image) h n = rw (le-leb (length (v ∷ image)) 8192 h)
+printed-parts (v ∷ image) h n = rw (le-leb (length (v ∷ image)) inputRoom h)

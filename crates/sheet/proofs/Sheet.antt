@@ -9,6 +9,7 @@ use Rattle.wire.specs.Items.{encodeItems}
 use Rattle.wire.proofs.Items.{items-most}
 use Rattle.label.specs.Label.{flows}
 use Rattle.instruction.specs.Program.{count}
+use Rattle.machine.specs.Limits.{sheetRoom}
 use Rattle.machine.specs.State.{Slot, unused, used, State, slotAt}
 use Rattle.machine.specs.View.{viewSlot, viewBy}
 use Rattle.machine.specs.Machine.{view}
@@ -74,7 +75,7 @@ slot-line-length n s (used t) h ok =
       decimal-width 1 (length (t .mailbox)) (omega (arith, mailbox-64 (t .mailbox) (f .mailbox))),
     )
 
-sheet-length : (s : State) → Valid s → length (sheetText s) ≤ 318
+sheet-length : (s : State) → Valid s → length (sheetText s) ≤ sheetRoom
 unfolding sheetText slotLines heading ascii tabulate
 sheet-length s ok =
     let n : count (s .program) ≤ 256 = omega (arith, size-facts (length (s .program)) (ok .size)) in
@@ -84,7 +85,7 @@ sheet-length s ok =
     rw length-append (omega (arith, lines))
 
 -- of a view of an accepted image
-pub sheet-fits : (v : ℕ) (image : List ℕ) → Bytes image → imageNumber image ≡ 0 → length (sheetBytes v image) ≤ 318
+pub sheet-fits : (v : ℕ) (image : List ℕ) → Bytes image → imageNumber image ≡ 0 → length (sheetBytes v image) ≤ sheetRoom
 sheet-fits v image bytes accepted =
     let s = stateOf image in
     sheet-length (view v s) (view-valid v s (accepted-valid image bytes accepted))

@@ -17,6 +17,9 @@ const LONG_RUN: u64 = 100_000;
 const CALLS: [(&str, &[usize]); 5] =
     [("rewrite", &[13]), ("turns", &[2, 13]), ("view", &[1, 13]), ("sheet", &[1, 13]), ("check", &[])];
 
+/// The row of `check`, which is no call that writes; those of the others are in the order of `Call`.
+const CHECK: usize = 4;
+
 const NUMBERS: usize = 14;
 
 /// A difference: all that is known of it.
@@ -101,7 +104,7 @@ impl Tally {
 
     /// Counts a check on which the two agreed, by the number that they told.
     pub fn check(&mut self, number: u8) {
-        self.calls[4][usize::from(number)] += 1;
+        self.calls[CHECK][usize::from(number)] += 1;
     }
 
     /// Counts a call of which that holds.

@@ -87,11 +87,4 @@ mod tests {
         ];
         assert_eq!(rows, should);
     }
-
-    #[test]
-    fn a_code_is_its_index() {
-        for (index, row) in TABLE.iter().enumerate() {
-            assert_eq!(usize::from(row.code), index, "{}", row.word);
-        }
-    }
 }

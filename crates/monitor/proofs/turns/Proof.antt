@@ -8,6 +8,7 @@ use borrow.Author.Tests.{le-leb, lt-leb}
 use denote.Ref.{now}
 use Rattle.wire.specs.Lists.{Bytes}
 use Rattle.wire.proofs.Lists.{IsByte, every-of}
+use Rattle.machine.specs.Limits.{turnLimit}
 use Rattle.machine.specs.State.{State}
 use Rattle.machine.specs.Machine as Machine
 use Rattle.image.specs.Image.{stateOf}
@@ -47,7 +48,7 @@ turns-requires c κs = loaded-valid (image c) (bytes c) (accepted c) (same c)
 -- more than 1,000,000 turns
 returns : tie.Need-returns
 returns c =
-    let above = lt-leb (c .before .before .before .before .args .count) 1000000 (omega arith) in
+    let above = lt-leb (c .before .before .before .before .args .count) turnLimit (omega arith) in
     call-beyond _ _ 1 (rw above) (c .refused .ensures)
 
 -- an accepted image
@@ -61,13 +62,13 @@ returns-2 c =
     let written =
     ap (λ (x : RunAnswer). snapshotBytes (r .last .0) (image p) (x .turn) 15) told
     ∙ turns-written (image p) (bytes p) (r .last .0) n (accepted p) ran in
-    let within = le-leb n 1000000 (omega arith) in
+    let within = le-leb n turnLimit (omega arith) in
     call-accepted _ _ (rw within) (accepted p) written (ap (λ (x : RunAnswer). x .busy) told) (c .before .before .write-answer .ensures)
 
 -- a refused one
 returns-3 : tie.Need-returns-3
 returns-3 c =
-    let within = le-leb (c .before .before .before .before .before .before .before .args .count) 1000000 (omega arith) in
+    let within = le-leb (c .before .before .before .before .before .before .before .args .count) turnLimit (omega arith) in
     call-refused _ _ (rw within) (c .before .before .load .ensures .0) (c .before .if2 .left) (c .refused2 .ensures)
 
 pub turns-spec : {M : Type 1} → statement M

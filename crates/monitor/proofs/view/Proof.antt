@@ -5,6 +5,7 @@ use mathlib.Core.Path.{refl, sym, ap, _∙_}
 use native.Mathlib.Omega.{arith}
 use borrow.Author.Tests.{le-leb, lt-leb}
 use denote.Ref.{now}
+use Rattle.machine.specs.Limits.{highestLabel}
 use Rattle.snapshot.specs.Writing.{snapshotBytes}
 use Rattle.snapshot.proofs.Loading.{loaded-accepted}
 use Rattle.monitor.proofs.Calls.{call-beyond, call-refused, call-accepted}
@@ -15,7 +16,7 @@ use Rattle.monitor.proofs.view.Tie as tie
 -- an observer above 15
 returns : tie.Need-returns
 returns c =
-    let above = lt-leb (c .before .before .before .before .args .observer) 15 (omega arith) in
+    let above = lt-leb (c .before .before .before .before .args .observer) highestLabel (omega arith) in
     call-beyond _ _ 0 (rw above) (c .refused .ensures)
 
 -- an accepted image
@@ -29,13 +30,13 @@ returns-2 c =
     let accepted = sym (l .load .ensures .0) ∙ t .before .if2 .taken in
     let loaded = l .load .ensures .1 ∙ loaded-accepted image _ accepted in
     let same = ap (λ (s : ℕ). snapshotBytes words image s (a .observer)) (t .turn-slot .ensures) ∙ view-written image words (a .observer) loaded in
-    let seen = le-leb (a .observer) 15 (omega arith) in
+    let seen = le-leb (a .observer) highestLabel (omega arith) in
     call-accepted _ _ (rw seen) accepted same refl (c .before .before .write-answer .ensures)
 
 -- a refused one
 returns-3 : tie.Need-returns-3
 returns-3 c =
-    let seen = le-leb (c .before .before .before .before .before .before .before .args .observer) 15 (omega arith) in
+    let seen = le-leb (c .before .before .before .before .before .before .before .args .observer) highestLabel (omega arith) in
     call-refused _ _ (rw seen) (c .before .before .load .ensures .0) (c .before .if2 .left) (c .refused2 .ensures)
 
 pub view-spec : {M : Type 1} → statement M

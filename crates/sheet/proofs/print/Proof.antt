@@ -10,6 +10,7 @@ use lib.ListN.{length, getD, drop}
 use Rattle.wire.specs.Lists.{Bytes}
 use Rattle.wire.proofs.Lists.{IsByte, every-of, every-drop}
 use Rattle.wire.proofs.Output.{rest}
+use Rattle.machine.specs.Limits.{sheetRoom}
 use Rattle.monitor.specs.declared.Answer.{Answer}
 use Rattle.monitor.specs.Calls.{callAnswer, callOutput}
 use Rattle.sheet.specs.Sheet.{sheetCall, refusalLine, printed, printedFor}
@@ -45,7 +46,7 @@ parts w = printed-parts (input w) (w .before .before .before .before .before .if
 bytes : (w : tie.After-write) → Bytes (drop 1 (input w))
 bytes w = every-drop IsByte 1 (input w) (every-of IsByte 0 (input w) (λ i. w .before .before .before .before .before .before .shared-slice-known .given i .fits))
 
-room : (w : tie.After-write) → length (output w) ≡ 318
+room : (w : tie.After-write) → length (output w) ≡ sheetRoom
 room w = w .before .write-arg2 .given .0 .1
 
 -- what the call told and wrote

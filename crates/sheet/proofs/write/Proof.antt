@@ -5,6 +5,7 @@ use native.Mathlib.Omega.{arith}
 use borrow.Author.Tests.{le-leb, lt-leb}
 use denote.Ref.{now}
 use Rattle.wire.proofs.Lists.{IsByte, every-of}
+use Rattle.machine.specs.Limits.{highestLabel}
 use Rattle.image.specs.Image.{stateOf}
 use Rattle.image.specs.Refusal.{imageNumber}
 use Rattle.snapshot.proofs.Loading.{loaded-accepted}
@@ -18,7 +19,7 @@ use Rattle.sheet.proofs.write.Tie as tie
 -- an observer above 15
 returns : tie.Need-returns
 returns c =
-    let above = lt-leb (c .before .before .before .before .args .observer) 15 (omega arith) in
+    let above = lt-leb (c .before .before .before .before .args .observer) highestLabel (omega arith) in
     call-beyond _ _ 0 (rw above) (c .refused .ensures)
 
 -- an accepted image: the number, and the sheet of the table
@@ -40,13 +41,13 @@ write-answer-requires c κs =
 returns-2 : tie.Need-returns-2
 returns-2 c =
     let t = c .before .before .before .before .before in
-    let seen = le-leb (c .before .before .before .before .before .before .before .before .before .before .before .args .observer) 15 (omega arith) in
+    let seen = le-leb (c .before .before .before .before .before .before .before .before .before .before .before .args .observer) highestLabel (omega arith) in
     call-accepted _ _ (rw seen) (accepted t) (same t) refl (c .before .before .write-answer .ensures)
 
 -- a refused one
 returns-3 : tie.Need-returns-3
 returns-3 c =
-    let seen = le-leb (c .before .before .before .before .before .before .before .args .observer) 15 (omega arith) in
+    let seen = le-leb (c .before .before .before .before .before .before .before .args .observer) highestLabel (omega arith) in
     call-refused _ _ (rw seen) (c .before .before .load .ensures .0) (c .before .if2 .left) (c .refused2 .ensures)
 
 pub write-spec : {M : Type 1} → statement M
