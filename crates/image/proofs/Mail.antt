@@ -15,6 +15,7 @@ use Rattle.wire.specs.Lists.{each, all}
 use Rattle.wire.specs.Items.{decodeItems}
 use Rattle.wire.proofs.Lists.{and-both, each-intro, each-fails, keep-append, all-append}
 use Rattle.wire.proofs.Items.{decode-at, decode-more}
+use Rattle.machine.specs.Limits.{highestSender}
 use Rattle.machine.specs.State.{Message}
 use Rattle.machine.specs.Turn.{ofLabel}
 use Rattle.machine.specs.Valid.{messageInRange, mailInRange}
@@ -28,8 +29,8 @@ messages = decodeItems 6 messageOf
 -- ---- counts
 
 -- a label in range has a count
-pub label-low : (label sender : ℕ) → (leb label 15 && leb sender 15) ≡ true → label < 16
-label-low label sender r = omega (arith, leb-true label 15 (and-both (leb label 15) (leb sender 15) r .0))
+pub label-low : (label sender : ℕ) → (leb label 15 && leb sender highestSender) ≡ true → label < 16
+label-low label sender r = omega (arith, leb-true label 15 (and-both (leb label 15) (leb sender highestSender) r .0))
 
 -- the messages are in range, and the counts are theirs, four of a label at most
 pub record Counted (counts : List ℕ) (ms : List Message) : Type 0 where
@@ -84,10 +85,10 @@ module _ (b : List ℕ) (j label sender : ℕ) (l : label ≡ getD b (6 * j) 0) 
   sender-is : sender ≡ getD (drop (6 * j) b) 1 0
   sender-is = rw getD-drop s
 
-  range-is : messageInRange (messageOf (drop (6 * j) b)) ≡ leb label 15 && leb sender 15
+  range-is : messageInRange (messageOf (drop (6 * j) b)) ≡ leb label 15 && leb sender highestSender
   range-is = rw (label-is, sender-is)
 
-  module _ (counts : List ℕ) (ok : Counted counts (messages j b)) (r : (leb label 15 && leb sender 15) ≡ true) where
+  module _ (counts : List ℕ) (ok : Counted counts (messages j b)) (r : (leb label 15 && leb sender highestSender) ≡ true) where
     pub message-counted : getD counts label 0 < 4 → Counted (set counts label (getD counts label 0 + 1)) (messages (j + 1) b)
     message-counted room = rw (add-one j, decode-more 6 messageOf j b, label-is) (counted-next counts (messages j b) ok (messageOf (drop (6 * j) b)) (range-is ∙ r) (rw (← label-is) room))
 
@@ -95,5 +96,5 @@ module _ (b : List ℕ) (j label sender : ℕ) (l : label ≡ getD b (6 * j) 0) 
     message-fifth k h full =
         rw (decode-at 6 messageOf k j b h) (counted-full counts (messages j b) ok (messageOf (drop (6 * j) b)) (range-is ∙ r) (rw (← label-is) full) _)
 
-  pub message-out-of-range : (k : ℕ) → j < k → (leb label 15 && leb sender 15) ≡ false → mailInRange (messages k b) ≡ false
+  pub message-out-of-range : (k : ℕ) → j < k → (leb label 15 && leb sender highestSender) ≡ false → mailInRange (messages k b) ≡ false
   message-out-of-range k h r = rw (decode-at 6 messageOf k j b h) (mail-out-of-range (messages j b) (messageOf (drop (6 * j) b)) (range-is ∙ r) _)

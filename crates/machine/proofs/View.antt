@@ -1,6 +1,6 @@
 -- Laws of views: a view of a view, the view of one who sees everything, and what a message and an outcome show.
 use Prim.Native.Nat.{ℕ, suc}
-use mathlib.Core.Path.{_≡_, refl, sym, _∙_}
+use mathlib.Core.Path.{_≡_, refl, sym, ap, _∙_}
 use mathlib.Core.Bool.{Bool, true, false, _&&_}
 use mathlib.Core.List.{List, [], _∷_, map, map-map, append-nil}
 use borrow.Author.Tests.{eqb-true}
@@ -49,17 +49,19 @@ module _ (sees : ℕ → Bool) where
     room-seen : (ms : List Message) → hasRoom (m .label) (keep (λ a. sees (a .label)) ms) ≡ hasRoom (m .label) ms
     room-seen ms = rw (keep-keep (λ a. eqb (a .label) (m .label)) (λ a. sees (a .label)) same-label)
 
-    enqueue-shown : (x : Slot) → viewSlot sees (enqueue m (viewSlot sees x)) ≡ viewSlot sees (enqueue m x)
+    -- what is seen arrives in the view as it does in the whole
+    pub enqueue-shown : (x : Slot) → viewSlot sees (enqueue m x) ≡ enqueue m (viewSlot sees x)
     enqueue-shown unused = refl
     enqueue-shown (used t) =
         split (sees (t .label))
-        (λ e. rw (e, room-seen) (split (eqb (t .kind) 1 && hasRoom (m .label) (t .mailbox)) (λ b. rw (b, e, keep-append, keep-append, mailbox-twice)) (λ b. rw (b, e, mailbox-twice))))
-        (λ e. rw e (split (eqb (t .kind) 1 && hasRoom (m .label) (t .mailbox)) (λ b. rw (b, e)) (λ b. rw (b, e))))
+        (λ e. split (eqb (t .kind) 1 && hasRoom (m .label) (t .mailbox)) (λ b. rw (b, e, room-seen, b, keep-append, shown)) (λ b. rw (b, e, room-seen, b)))
+        (λ e. split (eqb (t .kind) 1 && hasRoom (m .label) (t .mailbox)) (λ b. rw (b, e)) (λ b. rw (b, e)))
 
   -- the view of what arrives is that of what arrives in the view
   enqueue-view : (m : Message) (x : Slot) → viewSlot sees (enqueue m (viewSlot sees x)) ≡ viewSlot sees (enqueue m x)
   enqueue-view m x =
-      split (sees (m .label)) (λ e. enqueue-shown m e x)
+      split (sees (m .label))
+      (λ e. enqueue-shown m e (viewSlot sees x) ∙ ap (enqueue m) (slot-twice x) ∙ sym (enqueue-shown m e x))
       (λ e. enqueue-hidden m (viewSlot sees x) e ∙ slot-twice x ∙ sym (enqueue-hidden m x e))
 
   -- ---- all slots
