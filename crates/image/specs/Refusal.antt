@@ -76,7 +76,7 @@ unfoldable pub isRecordLength : ℕ → Bool
 isRecordLength l = eqb l 0 || (leb mailboxAt l && eqb ((l - mailboxAt) % messageSize) 0 && leb ((l - mailboxAt) / messageSize) mostMessages)
 
 -- 9 task field: kind, label, place out of range, or s + spare above 15;
--- 10 mail: message label or sender above 15, or five or more of one label
+-- 10 mail: message label above 15 or sender above 16, or five or more of one label
 abbrev pub recordNumber : ℕ → ℕ → Slot → ℕ
 recordNumber s n unused = 0
 recordNumber s n (used t) = unless (fieldsInRange s n t) 9 then unless (mailInRange (t .mailbox)) 10

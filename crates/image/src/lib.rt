@@ -29,6 +29,9 @@ pub const MAILBOX_AT: usize = 37;
 
 pub const MESSAGE_SIZE: usize = 6;
 
+// The sender of a message that the host posted, and the highest of all.
+pub const HOST: u8 = 16;
+
 // ---- the parts of an image
 
 // The length of the program, as its field says it.
@@ -194,7 +197,7 @@ fn mail_in_range(task: &[u8]) -> bool
     while j < k {
         let label = wire::byte_at(mailbox, MESSAGE_SIZE * j) as usize;
         let sender = wire::byte_at(mailbox, MESSAGE_SIZE * j + 1);
-        if (label <= 15) & (sender <= 15) {
+        if (label <= 15) & (sender <= HOST) {
             let count = counts[label];
             if count < 4 {
                 counts[label] = count + 1;

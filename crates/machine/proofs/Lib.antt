@@ -7,5 +7,6 @@ pub mod View
 pub mod Valid
 pub mod Turn
 pub mod Kept
+pub mod Post
 pub mod Machine
 pub mod Traps

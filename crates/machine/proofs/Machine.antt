@@ -1,12 +1,13 @@
 -- The machine's laws where labels are masks.
-use Prim.Native.Nat.{ℕ, _+_, _≤_}
+use Prim.Native.Nat.{ℕ, _+_, _^_, _<_, _≤_}
 use mathlib.Core.Path.{_≡_}
-use mathlib.Core.Bool.{true, cond}
+use mathlib.Core.Bool.{true, false, cond}
 use Rattle.wire.proofs.Lists.{every-weaken}
 use Rattle.label.specs.Label.{flows, join}
 use Rattle.label.proofs.Order.{DownClosed, label-order, flows-15}
 use Rattle.machine.specs.State.{Message, Slot, unused, used, State, slotAt, hasLiveTask}
 use Rattle.machine.specs.Turn.{current, turnBy}
+use Rattle.machine.specs.Post.{post}
 use Rattle.machine.specs.Valid.{Valid}
 use Rattle.machine.proofs.Rules.{MessageFacts, SlotFacts, slot-facts}
 use Rattle.machine.specs.Machine.{turns, busy, view}
@@ -14,6 +15,7 @@ use Rattle.machine.proofs.Valid as Valid
 use Rattle.machine.proofs.View.{AllSeen, view-all}
 use Rattle.machine.proofs.Turn as Turn
 use Rattle.machine.proofs.Kept as Kept
+use Rattle.machine.proofs.Post as Post
 
 -- what flows to a label that flows to v flows to v
 observer-down : (v : ℕ) → DownClosed flows (λ l. flows l v)
@@ -26,6 +28,9 @@ turns-valid = Valid.turns-valid flows join label-order
 
 pub view-valid : (v : ℕ) (s : State) → Valid s → Valid (view v s)
 view-valid v = Valid.view-valid (λ l. flows l v)
+
+pub post-valid : (j label value : ℕ) → label ≤ 15 → value < 2 ^ 32 → (s : State) → Valid s → Valid (post j label value s)
+post-valid = Valid.post-valid
 
 -- ---- and so is the program
 
@@ -63,6 +68,16 @@ turns-view v = Turn.turns-view flows join label-order (λ l. flows l v) (observe
 
 pub turns-same : (v n : ℕ) (s t : State) → Valid s → Valid t → view v s ≡ view v t → view v (turns n s) ≡ view v (turns n t)
 turns-same v = Turn.turns-same flows join label-order (λ l. flows l v) (observer-down v)
+
+-- ---- views and posts
+
+-- where its label flows to v, the view of a post is the post to the view
+pub post-shown : (v j label value : ℕ) → flows label v ≡ true → (s : State) → view v (post j label value s) ≡ post j label value (view v s)
+post-shown v = Post.post-shown (λ l. flows l v)
+
+-- else the view is as it was
+pub post-hidden : (v j label value : ℕ) → flows label v ≡ false → (s : State) → view v (post j label value s) ≡ view v s
+post-hidden v = Post.post-hidden (λ l. flows l v)
 
 -- ---- label 15
 

@@ -61,7 +61,7 @@ spares-set ss i y ok w =
     spares-within ss (set ss i y) ok (rw length-set (ok .slotCount))
     (λ n. getD-set-at (NoMore (slotAt ss n)) ss i n y unused (λ h. rw h w) (no-more-same (slotAt ss n)))
 
-spares-deliver : (ss : List Slot) (j : ℕ) (m : Message) → Spares ss → Spares (perform (deliver j m) ss)
+pub spares-deliver : (ss : List Slot) (j : ℕ) (m : Message) → Spares ss → Spares (perform (deliver j m) ss)
 spares-deliver ss j m ok = spares-set ss j (enqueue m (slotAt ss j)) ok (no-more-enqueue m (slotAt ss j))
 
 pub spares-view : (sees : ℕ → Bool) (ss : List Slot) → Spares ss → Spares (map (viewSlot sees) ss)

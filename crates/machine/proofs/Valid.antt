@@ -1,4 +1,4 @@
--- Valid states stay valid: an outcome keeps every range, so a turn does, and so does a view.
+-- Valid states stay valid: an outcome keeps every range, so a turn does, and so do a view and a post.
 use Prim.Native.Nat.{ℕ, zero, suc, _+_, _-_, _*_, _^_, _≤_, _<_}
 use mathlib.Core.Logic.{_≢_}
 use mathlib.Core.Path.{_≡_, refl}
@@ -24,12 +24,13 @@ use Rattle.instruction.proofs.Program.{at-below, at-sound, at-bytes, legal-at}
 use Rattle.machine.specs.State.{Message, Task, Slot, unused, used, State, slotAt, spareOf, withKind, withLabel, withSpare, withPc, withMailbox, register, withRegister, next}
 use Rattle.machine.specs.Effect.{Action, noAction, deliver, spawn, Outcome, withoutAction, childOf, childSlot, receivable, oldest, taken, execute, carriedOut, outcome}
 use Rattle.machine.specs.Turn.{hasRoom, enqueue, perform, applied, successor, step, turnBy, turnsBy}
+use Rattle.machine.specs.Post.{hostMessage, post}
 use Rattle.machine.specs.View.{viewSlot, viewBy}
 use Rattle.machine.specs.Valid.{Valid}
 use Rattle.machine.proofs.Rules.{MessageFacts, MailboxFacts, TaskFacts, SlotFacts, slot-facts, slot-valid, spares-free, spares-test}
 use Rattle.machine.proofs.Mailbox.{mailbox-keep, mailbox-dropFirst, mailbox-append, mailbox-nil}
 use Rattle.machine.proofs.Effect.{outcome-contained}
-use Rattle.machine.proofs.Spare.{Spares, spares-view, spares-applied}
+use Rattle.machine.proofs.Spare.{Spares, spares-deliver, spares-view, spares-applied}
 
 -- ---- a task with one field changed
 
@@ -240,6 +241,14 @@ view-valid sees s ok =
     with-slots s ok (s .turnSlot) (map (viewSlot sees) (s .slots)) (leb-true (s .turnSlot) 15 (ok .turnSlot))
     (λ i. rw (List·getD-map (viewSlot sees) (s .slots) i unused) (viewSlot-ok (count (s .program)) sees i (slotAt (s .slots) i) (tasks-facts s ok i)))
     (spares-view sees (s .slots) (valid-spares s ok))
+
+pub post-valid : (j label value : ℕ) → label ≤ 15 → value < 2 ^ 32 → (s : State) → Valid s → Valid (post j label value s)
+unfolding post
+post-valid j label value l v s ok =
+    let a = deliver j (hostMessage label value) in
+    with-slots s ok (s .turnSlot) (perform a (s .slots)) (leb-true (s .turnSlot) 15 (ok .turnSlot))
+    (perform-ok (count (s .program)) a (record { label = l; sender = omega arith; value = v }) (s .slots) (tasks-facts s ok))
+    (spares-deliver (s .slots) j (hostMessage label value) (valid-spares s ok))
 
 module _ (mayFlow : ℕ → ℕ → Bool) (joined : ℕ → ℕ → ℕ) (order : Order mayFlow joined) where
   -- one turn of the slot x where the turn slot is

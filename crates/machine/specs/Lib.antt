@@ -3,6 +3,7 @@ pub mod Limits
 pub mod State
 pub mod Effect
 pub mod Turn
+pub mod Post
 pub mod View
 pub mod Valid
 pub mod Machine

@@ -1,5 +1,5 @@
--- The highest numbers and the lengths that 01 allows, each once, in its order. How many slots, labels and registers there are
--- stands where they are gone through.
+-- The highest numbers and the lengths that 01 and 02 allow, each once, in 01's order. How many slots, labels and registers there
+-- are stands where they are gone through.
 use Prim.Native.Nat.{ℕ}
 
 -- labels, and so observers
@@ -23,8 +23,12 @@ limitPerLabel = 4
 abbrev pub highestKind : ℕ
 highestKind = 5
 
+-- the sender of a post: the host, who stands in no slot. The senders below it are slots
+abbrev pub host : ℕ
+host = 16
+
 abbrev pub highestSender : ℕ
-highestSender = 15
+highestSender = host
 
 -- the bytes of an image
 abbrev pub shortestImage : ℕ

@@ -2,7 +2,7 @@
 use Prim.Native.Nat.{ℕ, _+_, _-_, _*_, _^_, _%_, _<_, _≤_}
 use mathlib.Core.Logic.{_≢_}
 use mathlib.Core.Path.{_≡_, refl, sym, ap, subst, _∙_}
-use mathlib.Core.Bool.{true, false, _&&_, and-false}
+use mathlib.Core.Bool.{Bool, true, false, _&&_, and-false}
 use mathlib.Core.Option.{Option, none, some}
 use mathlib.Core.List.{List, [], _∷_, _++_}
 use native.Mathlib.Omega.{arith}
@@ -17,9 +17,11 @@ use Rattle.wire.proofs.Lists.{first-none, first-some, first-without}
 use Rattle.instruction.specs.declared.Instruction.{Instruction}
 use Rattle.instruction.specs.declared.Instruction.the-variants.{End, Set, Copy, Add, Subtract, Go, Zero, Raise, Send, Take, Poll, Sandbox, Identity}
 use Rattle.instruction.proofs.Table.{Sound, decode-sound}
-use Rattle.machine.specs.State.{Message, Task, Slot, unused, used, slotAt, isLive, withLabel, withSpare, withPc, register, withRegister, next}
+use Rattle.machine.specs.State.{Message, Task, Slot, unused, used, slotAt, isLive, hasLiveTask, withLabel, withSpare, withPc, register, withRegister, next}
 use Rattle.machine.specs.Effect.{Action, noAction, deliver, spawn, Outcome, withoutAction, stopped, childOf, receivable, oldest, taken, execute}
 use Rattle.machine.specs.Turn.{ofLabel, hasRoom, enqueue, perform, applied}
+use Rattle.machine.specs.Post.{mailOf, hasMore}
+use Rattle.machine.proofs.Post.{deliver-more}
 use Rattle.table.specs.Change.{noMessage, taskOr, taskAt, messageAt, changeSlot, change, slotWithKind, withMessage, withoutMessage}
 use Rattle.table.proofs.Change.{change-same, change-none, change-set, change-here}
 use Rattle.turn.specs.Effects.{executed, RoomFor, Ready, WasDecoded, isGiven}
@@ -176,12 +178,27 @@ module _ {s : ℕ} {ss : List Slot} (ready : Ready s ss) where
 -- ---- a message delivered to a slot
 
 module _ (ss : List Slot) (to : ℕ) (m : Message) where
+  -- the slots after the delivery, and whether the message joined
+  abbrev Delivered : List Slot → Bool → Type 0
+  Delivered after joined = (after ≡ perform (deliver to m) ss) × (joined ≡ hasMore to ss after)
+
+  -- it joins where this passes
+  abbrev takes : Slot → Bool
+  takes x = isLive (taskOr x) && hasRoom (m .label) (taskOr x .mailbox)
+
+  told : {after : List Slot} {joined : Bool} → takes (slotAt ss to) ≡ joined → after ≡ perform (deliver to m) ss → Delivered after joined
+  told e f = (f, sym (ap (hasMore to ss) f ∙ deliver-more m ss to ∙ same (slotAt ss to) ∙ e))
+    where
+      same : (x : Slot) → (hasLiveTask x && hasRoom (m .label) (mailOf x)) ≡ takes x
+      same unused = refl
+      same (used t) = refl
+
   -- a live task with fewer than four of its label gets it
   pub deliver-joins : {kind n : ℕ} → kind ≡ taskAt ss to .kind → kind ≡ 1 → n ≡ length (ofLabel (m .label) (taskAt ss to .mailbox)) → n < 4
-      → RoomFor (m .label) (taskAt ss to .mailbox) → change to (withMessage m) ss ≡ perform (deliver to m) ss
-  deliver-joins {n = n} e live counted few roomy =
+      → RoomFor (m .label) (taskAt ss to .mailbox) → {after : List Slot} → after ≡ change to (withMessage m) ss → Delivered after true
+  deliver-joins {n = n} e live counted few roomy changed =
       let room : hasRoom (m .label) (taskAt ss to .mailbox) ≡ true = rw (← counted) (lt-ltb n 4 few) in
-      ap (set ss to) (joins (slotAt ss to) (sym e ∙ live) room (roomy room))
+      told (rw (← e, live, room)) (changed ∙ ap (set ss to) (joins (slotAt ss to) (sym e ∙ live) room (roomy room)))
     where
       joins : (x : Slot) → taskOr x .kind ≡ 1 → hasRoom (m .label) (taskOr x .mailbox) ≡ true → length (taskOr x .mailbox) < 64
           → changeSlot (withMessage m) x ≡ enqueue m x
@@ -189,17 +206,17 @@ module _ (ss : List Slot) (to : ℕ) (m : Message) where
       joins (used t) live room fits = rw (live, room, take-all 64 (t .mailbox ++ (m ∷ [])) (simp length-append (omega arith)))
 
   -- in all other cases it is dropped
-  drops : (isLive (taskAt ss to) && hasRoom (m .label) (taskAt ss to .mailbox)) ≡ false → ss ≡ perform (deliver to m) ss
-  drops lacks = sym (set-getD ss to unused) ∙ ap (set ss to) (stays (slotAt ss to) lacks)
+  drops : takes (slotAt ss to) ≡ false → Delivered ss false
+  drops lacks = told lacks (sym (set-getD ss to unused) ∙ ap (set ss to) (stays (slotAt ss to) lacks))
     where
-      stays : (x : Slot) → (isLive (taskOr x) && hasRoom (m .label) (taskOr x .mailbox)) ≡ false → x ≡ enqueue m x
+      stays : (x : Slot) → takes x ≡ false → x ≡ enqueue m x
       stays unused lacks = refl
       stays (used t) lacks = rw lacks
 
-  pub deliver-full : {n : ℕ} → n ≡ length (ofLabel (m .label) (taskAt ss to .mailbox)) → 4 ≤ n → ss ≡ perform (deliver to m) ss
+  pub deliver-full : {n : ℕ} → n ≡ length (ofLabel (m .label) (taskAt ss to .mailbox)) → 4 ≤ n → Delivered ss false
   deliver-full {n} counted full = drops (rw (← counted, le-ltb n 4 full, and-false))
 
-  pub deliver-stopped : {kind : ℕ} → kind ≡ taskAt ss to .kind → kind ≢ 1 → ss ≡ perform (deliver to m) ss
+  pub deliver-stopped : {kind : ℕ} → kind ≡ taskAt ss to .kind → kind ≢ 1 → Delivered ss false
   deliver-stopped {kind} e stopped = drops (rw (← e, ne-eqb kind 1 stopped))
 
 -- ---- operands of an instruction that was decoded

@@ -8,6 +8,7 @@ ghost use Rattle.instruction.specs.declared.Instruction.the-variants.{Copy, Add
 ghost use Rattle.machine.specs.State.{used, slotAt, hasLiveTask, withRegister, next};
 ghost use Rattle.machine.specs.Effect.{childOf, oldest, deliver, outcome};
 ghost use Rattle.machine.specs.Turn.{perform, applied};
+ghost use Rattle.machine.specs.Post.{hasMore};
 ghost use Rattle.machine.specs.Valid.{Valid};
 ghost use Rattle.machine.specs.Machine.{turns, busy};
 ghost use Rattle.table.specs.Table.{slotsIn, stateIn};
@@ -100,17 +101,21 @@ fn identity(table: &mut table::Table, slot: u8, a: u8, b: u8)
 
 // ---- messages
 
-// The message joins the mailbox of a live task that has fewer than four of its label; in all other cases it is dropped.
-fn deliver(table: &mut table::Table, to: u32, label: u8, sender: u8, value: u32)
+// The message joins the mailbox of a live task that has fewer than four of its label; in all other cases it is dropped. Tells
+// whether it joined.
+pub fn deliver(table: &mut table::Table, to: u32, label: u8, sender: u8, value: u32) -> bool
     requires { ⌜ RoomFor label (taskAt (slotsIn (now table)) to .mailbox) ⌝ }
-    ensures { λ _. ⌜ slotsIn (now (table .exit))
-        ≡ perform (deliver to (record { label = label; sender = sender; value = value })) (slotsIn (now (table .entry))) ⌝ }
+    ensures { λ r. ⌜ (slotsIn (now (table .exit))
+        ≡ perform (deliver to (record { label = label; sender = sender; value = value })) (slotsIn (now (table .entry))))
+        × (r ≡ hasMore to (slotsIn (now (table .entry))) (slotsIn (now (table .exit)))) ⌝ }
 {
     if table::kind(table, to as usize) == 1 {
         if table::count_label(table, to as usize, label) < 4 {
             table::append(table, to as usize, label, sender, value);
+            return true;
         }
     }
+    false
 }
 
 // Sends register c under label b to the slot numbered in register a. Where the task's label does not flow to b it gets kind 4,

@@ -1,5 +1,4 @@
 -- `turn::deliver` meets its contract: a live task, and then room.
-use mathlib.Core.Path.{_∙_}
 use native.Mathlib.Omega.{arith}
 use denote.Ref.{now}
 use Rattle.table.specs.Table.{slotsIn}
@@ -13,8 +12,7 @@ returns c =
     let kind = c .before .before .before .before .before .before .kind in
     let test = c .before .before .before .before .before .if1 in
     let n = c .before .before .before .count-label in
-    c .append .ensures
-    ∙ deliver-joins (slotsIn (now (b .args .table))) (b .args .to) _ (kind .ensures) (test .taken) (n .ensures) (omega arith) (b .pre)
+    deliver-joins (slotsIn (now (b .args .table))) (b .args .to) _ (kind .ensures) (test .taken) (n .ensures) (omega arith) (b .pre) (c .append .ensures)
 
 returns-2 : tie.Need-returns-2
 returns-2 c = deliver-full _ _ _ (c .before .count-label .ensures) (omega arith)

@@ -19,7 +19,7 @@ returns c =
     let own = c .before .before .before .before .before .before .before .before .before .before .label in
     let admits = c .before .before .before .before .before .before .before .before .before .flows in
     let test = c .before .before .before .before .before .before .before .before .if1 in
-    rw (c .deliver .ensures, c .before .before .advance .ensures)
+    rw (c .deliver .ensures .0, c .before .before .advance .ensures)
     (send-done (b .pre .0) _ _ _ (own .ensures) (sym (admits .ensures) ∙ test .taken) (to .ensures) (value .ensures))
 
 returns-2 : tie.Need-returns-2
