@@ -1,5 +1,5 @@
--- The numbers a caller may receive, in 01's order: each with its condition, behind what comes before it. The tests of tasks
--- taken apart, behind 5, 9, 10 and 12, are machine's (machine/specs/Valid.antt).
+-- The numbers a caller may receive, in the order of 01 and 02: each with its condition, behind what comes before it. The tests of
+-- tasks taken apart, behind 5, 9, 10 and 12, are machine's (machine/specs/Valid.antt).
 use Prim.Native.Nat.{ℕ, zero, suc, _+_, _-_, _/_, _%_}
 use mathlib.Core.Bool.{Bool, true, false, _&&_, _||_}
 use mathlib.Core.List.{List}
@@ -36,6 +36,10 @@ observerNumber v = unless (leb v highestLabel) 1
 -- 2 turn limit: more than 1,000,000 turns
 abbrev pub turnLimitNumber : ℕ → ℕ
 turnLimitNumber n = unless (leb n turnLimit) 2
+
+-- of a post (02, U1), "both before the image is read": 14, a slot above 15, and then 15, a label above 15
+abbrev pub postNumber : ℕ → ℕ → ℕ
+postNumber slot label = unless (leb slot highestSlot) 14 then unless (leb label highestLabel) 15
 
 -- ---- "Then the image from front to back, a part checked whole for 3 before it is judged"
 
@@ -114,7 +118,7 @@ imageNumber b =
     then tailNumber b
     then estateNumber b
 
--- a call's number, given that of its argument, 0 where it is within its limit or there is none;
+-- a call's number, given that of its arguments, 0 where they are within their limits or there are none;
 -- 13 output: output shorter than the answer
 abbrev pub firstMet : ℕ → List ℕ → List ℕ → List ℕ → ℕ
 firstMet argument image answer out = argument then imageNumber image then unless (leb (length answer) (length out)) 13

@@ -13,8 +13,8 @@ use Rattle.wire.specs.Output.{overwrite}
 use Rattle.wire.specs.Inner.{written}
 use Rattle.wire.proofs.Lists.{split}
 use Rattle.wire.proofs.Output.{take-overwrite, drop-overwrite, length-overwrite, length-written}
-use Rattle.machine.specs.Limits.{highestLabel}
-use Rattle.image.specs.Refusal.{observerNumber, _then_, unless, imageNumber}
+use Rattle.machine.specs.Limits.{highestLabel, highestSlot}
+use Rattle.image.specs.Refusal.{observerNumber, postNumber, _then_, unless, imageNumber}
 use Rattle.image.proofs.Refusal.{then-stop, then-left, then-right, then-holds, unless-holds, unless-none, unless-given, Listed, listed-not}
 use Rattle.image.proofs.Image.{image-listed}
 use Rattle.monitor.specs.declared.Answer.{Answer}
@@ -34,29 +34,73 @@ module _ (b out : List ℕ) (busy : ℕ) {r : ℕ} {after : List ℕ} (size : r 
   pub told-13 : length after < r → {told : Answer} → told ≡ refusal 13 → told ≡ outputAnswer b busy out
   told-13 h e = rw (lt-leb (length b) (length out) (omega (arith, size, same-size))) e
 
--- ---- which number was given: the argument's a, the image's i, or 13 where the test t of the output fails
+-- ---- which number was given: the arguments' a, the image's i, or 13 where the test t of the output fails
 
-then-argument : (a i : ℕ) (t : Bool) (k : ℕ) → Listed i → 1 ≤ k → k ≤ 2 → (a then i then unless t 13) ≡ k → a ≡ k
-then-argument zero zero true k listed low high e = e
-then-argument zero zero false k listed low high e = omega arith
-then-argument zero (suc i) t k listed low high e = absurd (listed-not (suc i) k listed low high e)
-then-argument (suc a) i t k listed low high e = e
+-- a number that the image and the output leave to the arguments
+abbrev pub LeftToArguments : ℕ → Type 0
+LeftToArguments a = 3 ≤ a → a ≤ 13 → ⊥
 
-then-image : (a i : ℕ) (t : Bool) (k : ℕ) → a ≤ 2 → 3 ≤ k → k ≤ 12 → (a then i then unless t 13) ≡ k → (a ≡ 0) × (i ≡ k)
+then-argument : (a i : ℕ) (t : Bool) (k : ℕ) → Listed i → 1 ≤ k → LeftToArguments k → (a then i then unless t 13) ≡ k → a ≡ k
+then-argument zero zero true k listed some other e = e
+then-argument zero zero false k listed some other e = absurd (other (omega arith) (omega arith))
+then-argument zero (suc i) t k listed some other e = absurd (other (omega (arith, listed .least (omega arith))) (omega (arith, listed .most)))
+then-argument (suc a) i t k listed some other e = e
+
+then-image : (a i : ℕ) (t : Bool) (k : ℕ) → LeftToArguments a → 3 ≤ k → k ≤ 12 → (a then i then unless t 13) ≡ k → (a ≡ 0) × (i ≡ k)
 then-image zero zero true k argument low high e = (refl, e)
 then-image zero zero false k argument low high e = (refl, omega arith)
 then-image zero (suc i) t k argument low high e = (refl, e)
-then-image (suc a) i t k argument low high e = absurd (omega arith)
+then-image (suc a) i t k argument low high e = absurd (argument (omega arith) (omega arith))
 
-then-output : (a i : ℕ) (t : Bool) → a ≤ 2 → i ≤ 12 → (a then i then unless t 13) ≡ 13 → (a ≡ 0) × (i ≡ 0) × (t ≡ false)
+then-output : (a i : ℕ) (t : Bool) → LeftToArguments a → i ≤ 12 → (a then i then unless t 13) ≡ 13 → (a ≡ 0) × (i ≡ 0) × (t ≡ false)
 then-output zero zero true argument listed e = absurd (omega arith)
 then-output zero zero false argument listed e = (refl, refl, refl)
 then-output zero (suc i) t argument listed e = absurd (omega arith)
-then-output (suc a) i t argument listed e = absurd (omega arith)
+then-output (suc a) i t argument listed e = absurd (argument (omega arith) (omega arith))
 
--- an observer has number 0 or 1
-pub observer-low : (v : ℕ) → observerNumber v ≤ 2
-observer-low v = unless-holds (λ x. x ≤ 2) (leb v highestLabel) 1 (omega arith) (omega arith)
+-- the numbers of the arguments are such
+pub limit-number : (x limit k : ℕ) → LeftToArguments k → LeftToArguments (unless (leb x limit) k)
+limit-number x limit k other = unless-holds LeftToArguments (leb x limit) k (λ low high. omega arith) other
+
+pub observer-number : (v : ℕ) → LeftToArguments (observerNumber v)
+observer-number v = limit-number v highestLabel 1 (λ low high. omega arith)
+
+pub post-number : (slot label : ℕ) → LeftToArguments (postNumber slot label)
+post-number slot label =
+    then-holds LeftToArguments (unless (leb slot highestSlot) 14) (unless (leb label highestLabel) 15)
+    (limit-number slot highestSlot 14 (λ low high. omega arith))
+    (limit-number label highestLabel 15 (λ low high. omega arith))
+
+-- ---- a post's arguments: none has a number exactly where both are within their limits
+
+module _ (slot label : ℕ) where
+  pub post-within : postNumber slot label ≡ 0 → (slot ≤ highestSlot) × (label ≤ highestLabel)
+  post-within e = (
+    leb-true slot highestSlot (unless-none (leb slot highestSlot) 13 (then-left (unless (leb slot highestSlot) 14) _ e)),
+    leb-true label highestLabel (unless-none (leb label highestLabel) 14 (then-right (unless (leb slot highestSlot) 14) _ e)),
+  )
+
+  pub post-none : slot ≤ highestSlot → label ≤ highestLabel → postNumber slot label ≡ 0
+  post-none j l = rw (le-leb slot highestSlot j, le-leb label highestLabel l)
+
+  -- 14, and 15 behind it
+  pub slot-given : postNumber slot label ≡ 14 → highestSlot < slot
+  slot-given e = leb-false slot highestSlot (fails (leb slot highestSlot) (leb label highestLabel) e)
+    where
+      fails : (t u : Bool) → (unless t 14 then unless u 15) ≡ 14 → t ≡ false
+      fails true true e = absurd (omega arith)
+      fails true false e = absurd (omega arith)
+      fails false u e = refl
+
+  pub label-given : postNumber slot label ≡ 15 → (slot ≤ highestSlot) × (highestLabel < label)
+  label-given e =
+      let t = tests (leb slot highestSlot) (leb label highestLabel) e in
+      (leb-true slot highestSlot (t .0), leb-false label highestLabel (t .1))
+    where
+      tests : (t u : Bool) → (unless t 14 then unless u 15) ≡ 15 → (t ≡ true) × (u ≡ false)
+      tests true true e = absurd (omega arith)
+      tests true false e = (refl, refl)
+      tests false u e = absurd (omega arith)
 
 -- ---- a call by its number
 
@@ -88,14 +132,14 @@ module _ (c : Call) (out : List ℕ) where
     λ h. first-met ∙ rw (h .0, h .1, le-leb (length (c .bytes)) (length out) (h .2)),
   )
 
-  -- 1 and 2 come from the argument
-  argument-exactly : (k : ℕ) → 1 ≤ k → k ≤ 2 → Exactly (callAnswer c out .number ≡ k) (c .argumentNumber ≡ k)
-  argument-exactly k low high = (
-    λ e. then-argument (c .argumentNumber) (imageNumber (c .image)) fits k (image-listed (c .image)) low high (sym first-met ∙ e),
+  -- every number that is not the image's or the output's comes from the arguments
+  pub argument-exactly : (k : ℕ) → 1 ≤ k → LeftToArguments k → Exactly (callAnswer c out .number ≡ k) (c .argumentNumber ≡ k)
+  argument-exactly k some other = (
+    λ e. then-argument (c .argumentNumber) (imageNumber (c .image)) fits k (image-listed (c .image)) some other (sym first-met ∙ e),
     λ e. first-met ∙ rw e (then-stop k (λ z. omega arith) _),
   )
 
-  pub numbers-by-cause : c .argumentNumber ≤ 2 → NumbersByCause c out
+  pub numbers-by-cause : LeftToArguments (c .argumentNumber) → NumbersByCause c out
   numbers-by-cause argument = record {
     accepted = accepted-exactly;
     fromArgument = argument-exactly;
@@ -112,11 +156,11 @@ module _ (c : Call) (out : List ℕ) where
   }
 
   -- the argument x has the number k where it is beyond its limit
-  pub limit-exactly : (x limit k : ℕ) → c .argumentNumber ≡ unless (leb x limit) k → 1 ≤ k → k ≤ 2
+  pub limit-exactly : (x limit k : ℕ) → c .argumentNumber ≡ unless (leb x limit) k → 1 ≤ k → LeftToArguments k
       → Exactly (callAnswer c out .number ≡ k) (limit < x)
-  limit-exactly x limit k e low high = (
-    λ told. leb-false x limit (unless-given (leb x limit) k low (sym e ∙ argument-exactly k low high .0 told)),
-    λ beyond. argument-exactly k low high .1 (e ∙ rw (lt-leb x limit beyond)),
+  limit-exactly x limit k e some other = (
+    λ told. leb-false x limit (unless-given (leb x limit) k some (sym e ∙ argument-exactly k some other .0 told)),
+    λ beyond. argument-exactly k some other .1 (e ∙ rw (lt-leb x limit beyond)),
   )
 
   -- the bytes that the call writes, none where it is refused
@@ -176,16 +220,14 @@ module _ (c : Call) (out : List ℕ) where
       (rw e (unless-holds (λ x. (x ≤ 13) × (x ≢ 2)) (leb v highestLabel) 1 (omega arith, λ z. omega arith) (omega arith, λ z. omega arith)))
       (omega (arith, i .most), listed-not _ 2 i (omega arith) (omega arith)) (omega arith, λ z. omega arith) (omega arith, λ z. omega arith)
 
-  -- ---- a call whose argument is beyond its limit
+  -- ---- a call whose arguments are beyond their limits
 
-  pub call-beyond : (n : ℕ) → c .argumentNumber ≡ suc n → {r : Answer} → r ≡ refusal (suc n)
-      → CallPromise c out r out
+  pub call-beyond : {k : ℕ} → k ≡ c .argumentNumber → k ≢ 0 → {r : Answer} → r ≡ refusal k → CallPromise c out r out
   unfolding callAnswer callOutput callNumber
-  call-beyond n beyond told =
-      let some : suc n ≢ 0 = λ e. omega arith in
-      rw (told, beyond, then-stop (suc n) some (imageNumber (c .image) then unless (leb (length (c .bytes)) (length out)) 13), ne-eqb (suc n) 0 some) (refl, refl)
+  call-beyond {k} beyond some told =
+      rw (told, ← beyond, then-stop k some (imageNumber (c .image) then unless (leb (length (c .bytes)) (length out)) 13), ne-eqb k 0 some) (refl, refl)
 
-  -- ---- a call whose argument is within its limit
+  -- ---- a call whose arguments are within their limits
 
   module _ (argument : c .argumentNumber ≡ 0) where
     -- its image is refused

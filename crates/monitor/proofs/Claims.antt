@@ -4,25 +4,30 @@ use mathlib.Core.Logic.{_≢_}
 use mathlib.Core.Path.{refl, ap, _∙_}
 use mathlib.Core.List.{List}
 use native.Mathlib.Omega.{arith}
-use borrow.Author.Tests.{le-leb}
+use borrow.Author.Tests.{le-leb, lt-leb}
 use lib.Dec.{leb}
 use lib.ListN.{length}
 use Rattle.wire.specs.Output.{overwrite}
 use Rattle.wire.proofs.Lists.{length-nil}
-use Rattle.machine.specs.Limits.{highestLabel, longestImage, turnLimit}
+use Rattle.machine.specs.Limits.{highestLabel, highestSlot, longestImage, turnLimit}
 use Rattle.machine.specs.State.{State}
 use Rattle.machine.specs.Valid.{Valid}
 use Rattle.machine.specs.View.{viewBy}
+use Rattle.machine.specs.Post.{hostMessage, post}
 use Rattle.machine.specs.Machine.{turns, view}
-use Rattle.machine.proofs.Machine.{turns-valid, view-valid, view-15}
+use Rattle.machine.proofs.Post.{deliver-more}
+use Rattle.machine.proofs.Machine.{turns-valid, view-valid, post-valid, view-15}
+use Rattle.image.specs.Refusal.{_then_, unless}
 use Rattle.image.specs.Image.{stateOf, imageBytes}
-use Rattle.image.proofs.Refusal.{unless-holds, listed-not}
+use Rattle.image.proofs.Refusal.{then-holds, unless-holds, listed-not}
 use Rattle.image.proofs.Image.{accepted-length, image-listed, image-forth, record-part, record-above, record-refused, record-inside}
 use Rattle.image.proofs.Image.{extent-none, extent-some, extent-told, extent-within}
-use Rattle.monitor.specs.Calls.{rewriteCall, turnsCall, viewCall}
-use Rattle.monitor.specs.Claims.{NumbersAreListed, LimitsAreRefused, NoneInAnyOtherEvent, OthersAreAccepted, CallsWriteTheirAnswer, RecordIsItsPart}
+use Rattle.monitor.specs.Calls.{rewriteCall, turnsCall, postCall, viewCall}
+use Rattle.monitor.specs.Claims.{NumbersAreListed, LimitsAreRefused, NoneInAnyOtherEvent, OthersAreAccepted, CallsWriteTheirAnswer, PostsTellDelivery, RecordIsItsPart}
 use Rattle.monitor.specs.Claims.{ImageLengths, ReadThenWrite, WriteThenRead, ViewIsAccepted, ViewFor15, ProgramInEveryView, Secrecy, EqualViewsAreEqualBytes}
-use Rattle.monitor.proofs.Calls.{accepted-exactly, numbers-by-cause, observer-low, limit-exactly, output-accepted, writes-its-answer, number-holds, observer-listed}
+use Rattle.monitor.proofs.Calls.{limit-number, observer-number, post-number, post-none, slot-given, label-given, accepted-exactly}
+use Rattle.monitor.proofs.Calls.{argument-exactly, numbers-by-cause, limit-exactly, output-accepted, writes-its-answer, number-holds, observer-listed}
+use Rattle.monitor.proofs.Posts.{refused-drops, accepted-tells}
 use Rattle.monitor.proofs.Secrecy as Secrecy
 use Rattle.monitor.proofs.Secrecy.{read-valid, rewritten, written-accepted, equal-bytes, equal-views}
 
@@ -39,19 +44,31 @@ numbers-are-listed image out =
           (unless-holds (λ x. (x ≤ 13) × (x ≢ 1)) (leb n turnLimit) 2 (omega arith, λ e. omega arith) (omega arith, λ e. omega arith))
           (omega (arith, i .most), not-1) (omega arith, λ e. omega arith) (omega arith, λ e. omega arith),
       λ v. observer-listed (viewCall v image) out v refl,
+      λ slot label value. number-holds (postCall slot label value image) out (λ x. (x ≤ 15) × (x ≢ 1) × (x ≢ 2))
+          (then-holds (λ x. (x ≤ 15) × (x ≢ 1) × (x ≢ 2)) (unless (leb slot highestSlot) 14) (unless (leb label highestLabel) 15)
+          (unless-holds (λ x. (x ≤ 15) × (x ≢ 1) × (x ≢ 2)) (leb slot highestSlot) 14 (omega arith, λ e. omega arith, λ e. omega arith) (omega arith, λ e. omega arith, λ e. omega arith))
+          (unless-holds (λ x. (x ≤ 15) × (x ≢ 1) × (x ≢ 2)) (leb label highestLabel) 15 (omega arith, λ e. omega arith, λ e. omega arith) (omega arith, λ e. omega arith, λ e. omega arith)))
+          (omega (arith, i .most), not-1, not-2) (omega arith, λ e. omega arith, λ e. omega arith) (omega arith, λ e. omega arith, λ e. omega arith),
     )
 
 pub limits-are-refused : LimitsAreRefused
 limits-are-refused image out = (
-  λ v. limit-exactly (viewCall v image) out v highestLabel 1 refl (omega arith) (omega arith),
-  λ n. limit-exactly (turnsCall n image) out n turnLimit 2 refl (omega arith) (omega arith),
+  λ v. limit-exactly (viewCall v image) out v highestLabel 1 refl (omega arith) (λ low high. omega arith),
+  λ n. limit-exactly (turnsCall n image) out n turnLimit 2 refl (omega arith) (λ low high. omega arith),
+  λ slot label value.
+      let told = argument-exactly (postCall slot label value image) out 14 (omega arith) (λ low high. omega arith) in
+      (λ e. slot-given slot label (told .0 e), λ h. told .1 (rw (lt-leb slot highestSlot h))),
+  λ slot label value.
+      let told = argument-exactly (postCall slot label value image) out 15 (omega arith) (λ low high. omega arith) in
+      (λ e. label-given slot label (told .0 e), λ h. told .1 (rw (le-leb slot highestSlot (h .0), lt-leb label highestLabel (h .1)))),
 )
 
 pub none-in-any-other-event : NoneInAnyOtherEvent
 none-in-any-other-event image out = (
-  numbers-by-cause (rewriteCall image) out (omega arith),
-  λ n. numbers-by-cause (turnsCall n image) out (unless-holds (λ x. x ≤ 2) (leb n turnLimit) 2 (omega arith) (omega arith)),
-  λ v. numbers-by-cause (viewCall v image) out (observer-low v),
+  numbers-by-cause (rewriteCall image) out (λ low high. omega arith),
+  λ n. numbers-by-cause (turnsCall n image) out (limit-number n turnLimit 2 (λ low high. omega arith)),
+  λ v. numbers-by-cause (viewCall v image) out (observer-number v),
+  λ slot label value. numbers-by-cause (postCall slot label value image) out (post-number slot label),
 )
 
 -- a valid state's image has at most 7,796 bytes
@@ -65,10 +82,20 @@ others-are-accepted image out a h =
       accepted-exactly (rewriteCall image) out .1 (refl, a .number, room s ok out h),
       λ n l. accepted-exactly (turnsCall n image) out .1 (rw (le-leb n turnLimit l), a .number, room (turns n s) (turns-valid n s ok) out h),
       λ v l. accepted-exactly (viewCall v image) out .1 (rw (le-leb v highestLabel l), a .number, room (view v s) (view-valid v s ok) out h),
+      λ slot label value j l x. accepted-exactly (postCall slot label value image) out .1
+          (post-none slot label j l, a .number, room (post slot label value s) (post-valid slot label value l x s ok) out h),
     )
 
 pub calls-write-their-answer : CallsWriteTheirAnswer
 calls-write-their-answer = writes-its-answer
+
+pub posts-tell-delivery : PostsTellDelivery
+unfolding post
+posts-tell-delivery slot label value image out =
+    record {
+      refused = refused-drops slot label value image out;
+      accepted = λ e. accepted-tells slot label value image out e ∙ deliver-more (hostMessage label value) (stateOf image .slots) slot;
+    }
 
 pub record-is-its-part : RecordIsItsPart
 record-is-its-part image slot =
@@ -112,7 +139,7 @@ program-in-every-view v image a =
     (ap (λ (r : State). r .program) read, ap (λ (r : State). r .turnSlot) read)
 
 pub secrecy : Secrecy
-secrecy v seen image image′ a a′ e calls calls′ p p′ n = Secrecy.secrecy v seen image image′ a a′ e calls calls′ p p′ n
+secrecy v seen image image′ a a′ e calls calls′ p p′ n posts = Secrecy.secrecy v image image′ a a′ e seen calls calls′ p p′ n posts
 
 pub equal-views-are-equal-bytes : EqualViewsAreEqualBytes
 equal-views-are-equal-bytes v seen image image′ a a′ = (equal-bytes v seen image image′, equal-views v seen image image′ a a′)

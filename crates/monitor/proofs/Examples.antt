@@ -7,6 +7,7 @@ use Rattle.instruction.specs.Table as Table
 use Rattle.instruction.specs.Program as Program
 use Rattle.machine.specs.Effect as Effect
 use Rattle.machine.specs.Turn as Turn
+use Rattle.machine.specs.Post as Post
 use Rattle.machine.specs.View as View
 use Rattle.machine.specs.Valid as Valid
 use Rattle.image.specs.Image as Image
@@ -16,7 +17,7 @@ use Rattle.monitor.specs.Examples.{Examples}
 
 pub examples : Examples
 unfolding Lists.each Label.flows Table.decode Program.instructionAt Effect.execute Effect.outcome Turn.turnBy
-    Turn.turnsBy Turn.busyBy View.viewBy Refusal.instructionsNumber Lists.all Items.decodeItems Items.encodeItems Image.programLength Image.slotsPart Refusal.versionNumber
+    Turn.turnsBy Turn.busyBy Post.post View.viewBy Refusal.instructionsNumber Lists.all Items.decodeItems Items.encodeItems Image.programLength Image.slotsPart Refusal.versionNumber
     Valid.isProgramLength Refusal.programNumber Refusal.turnSlotNumber Image.recordLength Image.skip Image.slotsOf
     Refusal.isRecordLength Refusal.slotNumber Refusal.slotsNumber Refusal.tailNumber Valid.sparesUnused
     Refusal.estateNumber Refusal.imageNumber Image.stateOf Image.imageBytes Calls.callNumber Calls.callAnswer
@@ -30,6 +31,12 @@ examples = record {
   p7 = (refl, refl);
   p8 = refl;
   p9 = (refl, refl);
+  delivery = (refl, refl, refl, refl, refl, refl, refl, refl, refl);
+  taken = refl;
+  postOrder = (refl, refl, refl, refl);
+  posts = (refl, refl);
+  late = refl;
+  reordered = (refl, refl);
   order = (refl, refl, refl, refl);
   hidden = (refl, refl, refl, refl);
 }

@@ -41,6 +41,16 @@ observerOf a = a .1 .0
 abbrev pub outputOf : {A B C D : Type 0} → A × (B × (C × D)) → C
 outputOf a = a .1 .1 .0
 
+-- of a post slot, label and value stand between image and output
+abbrev pub labelOf : {A B C D : Type 0} → A × (B × (C × D)) → C
+labelOf a = a .1 .1 .0
+
+abbrev pub valueOf : {A B C D E : Type 0} → A × (B × (C × (D × E))) → D
+valueOf a = a .1 .1 .1 .0
+
+abbrev pub postOutputOf : {A B C D E F : Type 0} → A × (B × (C × (D × (E × F)))) → E
+postOutputOf a = a .1 .1 .1 .1 .0
+
 -- of a program the input, and of a refusal its number, stand in the image's place
 abbrev pub inputOf : {A B : Type 0} → A × B → A
 inputOf a = a .0

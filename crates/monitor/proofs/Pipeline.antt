@@ -1,15 +1,17 @@
 -- What the table holds of an image that was loaded, and what is written of it once it was run: the bytes of its state in the view.
-use Prim.Native.Nat.{ℕ}
+use Prim.Native.Nat.{ℕ, _^_, _<_, _≤_}
 use mathlib.Core.Path.{_≡_, refl, sym, ap, subst, _∙_}
 use mathlib.Core.List.{List}
 use borrow.Author.Tests.{eqb-true, eqb-false}
 use lib.Dec.{eqb}
 use Rattle.wire.specs.Lists.{Bytes}
 use Rattle.wire.proofs.Lists.{split}
+use Rattle.machine.specs.Limits.{highestLabel}
 use Rattle.machine.specs.State.{State}
+use Rattle.machine.specs.Post.{post}
 use Rattle.machine.specs.Valid.{Valid}
 use Rattle.machine.specs.Machine.{turns, view}
-use Rattle.machine.proofs.Machine.{turns-valid, turns-program, view-15}
+use Rattle.machine.proofs.Machine.{turns-valid, turns-program, post-valid, view-15}
 use Rattle.image.specs.Image.{programOf, turnSlotOf, stateOf, imageBytes}
 use Rattle.image.specs.Refusal.{imageNumber}
 use Rattle.image.proofs.Image.{accepted-valid}
@@ -51,15 +53,28 @@ module _ (image words : List ℕ) where
 
 -- ---- the observer 15 sees everything
 
+-- the table holds a valid state with the image's program: its bytes are written
+whole-written : (image words : List ℕ) (s : State) → Valid s → s .program ≡ programOf image → slotsIn words ≡ s .slots
+    → snapshotBytes words image (s .turnSlot) 15 ≡ imageBytes s
+whole-written image words s ok program slots = snapshot-is image words 15 s program slots ∙ ap imageBytes (view-15 s ok)
+
 module _ (image : List ℕ) (bytes : Bytes image) where
-  -- n turns done
-  pub turns-written : (words : List ℕ) (n : ℕ) → imageNumber image ≡ 0 → slotsIn words ≡ turns n (stateOf image) .slots
-      → snapshotBytes words image (turns n (stateOf image) .turnSlot) 15 ≡ imageBytes (turns n (stateOf image))
-  unfolding stateOf
-  turns-written words n accepted ran =
-      let s = stateOf image in
-      snapshot-is image words 15 (turns n s) (turns-program n s) ran
-      ∙ ap imageBytes (view-15 (turns n s) (turns-valid n s (accepted-valid image bytes accepted)))
+  module _ (words : List ℕ) (accepted : imageNumber image ≡ 0) where
+    -- n turns done
+    pub turns-written : (n : ℕ) → slotsIn words ≡ turns n (stateOf image) .slots
+        → snapshotBytes words image (turns n (stateOf image) .turnSlot) 15 ≡ imageBytes (turns n (stateOf image))
+    unfolding stateOf
+    turns-written n ran =
+        let s = stateOf image in
+        whole-written image words (turns n s) (turns-valid n s (accepted-valid image bytes accepted)) (turns-program n s) ran
+
+    -- a post done
+    pub post-written : (slot label value : ℕ) → label ≤ highestLabel → value < 2 ^ 32 → slotsIn words ≡ post slot label value (stateOf image) .slots
+        → snapshotBytes words image (turnSlotOf image) 15 ≡ imageBytes (post slot label value (stateOf image))
+    unfolding stateOf post
+    post-written slot label value l x posted =
+        let s = stateOf image in
+        whole-written image words (post slot label value s) (post-valid slot label value l x s (accepted-valid image bytes accepted)) refl posted
 
   -- to write the image again is to write its view for 15
   pub view-rewrites : (out : List ℕ)

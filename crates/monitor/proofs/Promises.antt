@@ -6,9 +6,9 @@ use denote.Ref.{now, ptr}
 use Rattle.wire.specs.Slices.{offsetBy}
 use Rattle.image.specs.Refusal.{imageNumber}
 use Rattle.image.specs.Part.{recordPart, recordExtent}
-use Rattle.monitor.specs.Calls.{callAnswer, callOutput, refusal, CallPromise, rewriteCall, turnsCall, viewCall}
-use Rattle.monitor.specs.CallList.{TurnCall, imageAfter, KeptPromises}
-use Rattle.monitor.proofs.Keeps.{Keeps, imageOf, slotNumberOf, countOf, observerOf, outputOf, soleOutputOf, numberOf}
+use Rattle.monitor.specs.Calls.{callAnswer, callOutput, refusal, CallPromise, rewriteCall, turnsCall, PostPromise, viewCall}
+use Rattle.monitor.specs.CallList.{Request, HostCall, imageAfter, requestCall, Fits, KeptPromises}
+use Rattle.monitor.proofs.Keeps.{Keeps, imageOf, slotNumberOf, countOf, observerOf, outputOf, labelOf, valueOf, postOutputOf, soleOutputOf, numberOf}
 use Rattle.monitor.proofs.check as Check
 use Rattle.monitor.proofs.check.Symbol as CheckCode
 use Rattle.monitor.proofs.check.Met as CheckMet
@@ -27,6 +27,9 @@ use Rattle.monitor.proofs.rewrite.Met as RewriteMet
 use Rattle.monitor.proofs.turns as Turns
 use Rattle.monitor.proofs.turns.Symbol as TurnsCode
 use Rattle.monitor.proofs.turns.Met as TurnsMet
+use Rattle.monitor.proofs.post as Post
+use Rattle.monitor.proofs.post.Symbol as PostCode
+use Rattle.monitor.proofs.post.Met as PostMet
 use Rattle.monitor.proofs.view as View
 use Rattle.monitor.proofs.view.Symbol as ViewCode
 use Rattle.monitor.proofs.view.Met as ViewMet
@@ -54,19 +57,23 @@ module _ {M : Type 1} where
       (λ κs a r e. CallPromise (turnsCall (countOf a) (now (imageOf a))) (now (outputOf a)) r (now (outputOf e)))
   turns-keeps = TurnsMet.met
 
+  pub post-keeps : Keeps M Post.ended PostCode.routine
+      (λ κs a r e. PostPromise (slotNumberOf a) (labelOf a) (valueOf a) (now (imageOf a)) (now (postOutputOf a)) r (now (postOutputOf e)))
+  post-keeps = PostMet.met
+
   pub view-keeps : Keeps M View.ended ViewCode.routine
       (λ κs a r e. CallPromise (viewCall (observerOf a) (now (imageOf a))) (now (outputOf a)) r (now (outputOf e)))
   view-keeps = ViewMet.met
 
--- ---- lists of calls that keep the promise: none, and one with any n and any output ahead of others
+-- ---- lists of calls that keep the promises: none, and one with any arguments and any output ahead of others
 
 pub kept-none : (image : List ℕ) → KeptPromises [] image
 kept-none image = tt
 
 -- the call as the definitions say that it goes
-abbrev pub went : ℕ → List ℕ → List ℕ → TurnCall
-went n out image = record { n = n; out = out; told = callAnswer (turnsCall n image) out; after = callOutput (turnsCall n image) out }
+abbrev pub went : Request → List ℕ → List ℕ → HostCall
+went r out image = record { request = r; out = out; told = callAnswer (requestCall r image) out; after = callOutput (requestCall r image) out }
 
-pub kept-next : (n : ℕ) (out image : List ℕ) (calls : List TurnCall) → KeptPromises calls (imageAfter (went n out image) image)
-    → KeptPromises (went n out image ∷ calls) image
-kept-next n out image calls kept = ((refl, refl), kept)
+pub kept-next : (r : Request) → Fits r → (out image : List ℕ) (calls : List HostCall) → KeptPromises calls (imageAfter (went r out image) image)
+    → KeptPromises (went r out image ∷ calls) image
+kept-next r fits out image calls kept = ((fits, (refl, refl)), kept)

@@ -1,25 +1,29 @@
--- The secrecy rule: a list of turn calls comes to its sum of turns, and turns keep equal views equal.
-use Prim.Native.Nat.{ℕ, _+_, _≤_}
+-- The secrecy rule: a list of calls ends with the view that its visible posts and its sum of turns make of the view that it starts
+-- with.
+use Prim.Native.Nat.{ℕ, _+_, _-_, _≤_}
 use mathlib.Core.Path.{_≡_, refl, sym, ap, _∙_}
-use mathlib.Core.Bool.{cond}
-use mathlib.Core.List.{List, [], _∷_}
+use mathlib.Core.Bool.{Bool, true, false, cond}
+use mathlib.Core.List.{List, [], _∷_, _++_}
+use native.Mathlib.Nat.{add-zero, zero-add}
 use native.Mathlib.Omega.{arith}
 use borrow.Author.Tests.{le-leb, eqb-true}
 use lib.ListN.{length, take, replicate, length-replicate}
 use Rattle.wire.proofs.Lists.{split}
+use Rattle.label.specs.Label.{flows}
 use Rattle.machine.specs.Limits.{highestLabel}
 use Rattle.machine.specs.State.{State}
-use Rattle.machine.specs.Turn as Turn
+use Rattle.machine.specs.Post.{post}
 use Rattle.machine.specs.Valid.{Valid}
 use Rattle.machine.specs.Machine.{turns, view}
-use Rattle.machine.proofs.Machine.{turns-valid, view-valid, turns-add, turns-same}
+use Rattle.machine.proofs.Machine.{turns-valid, view-valid, post-valid, turns-none, turns-add, turns-same, post-shown, post-hidden}
 use Rattle.image.specs.Refusal.{observerNumber}
 use Rattle.image.specs.Image.{stateOf, imageBytes}
 use Rattle.image.proofs.Image.{accepted-valid, image-back, image-bytes, image-accepted, image-forth}
-use Rattle.monitor.specs.Calls.{callAnswer, callOutput, CallPromise, turnsCall, viewBytes, viewCall}
-use Rattle.monitor.specs.CallList.{TurnCall, isAccepted, imageAfter, finalImage, turnsCarriedOut, KeptPromises}
+use Rattle.monitor.specs.Calls.{callAnswer, callOutput, viewBytes, viewCall}
+use Rattle.monitor.specs.CallList.{Request, askTurns, askPost, HostCall, isAccepted, imageAfter, finalImage, turnsAsked, turnsCarriedOut}
+use Rattle.monitor.specs.CallList.{VisiblePost, postsAsked, postsFrom, visiblePosts, requestCall, Fits, KeptPromise, KeptPromises}
 use Rattle.monitor.specs.Claims.{Accepted, EqualViews}
-use Rattle.monitor.proofs.Calls.{accepted-exactly, writes-its-answer, tell-the-same}
+use Rattle.monitor.proofs.Calls.{accepted-exactly, post-within, writes-its-answer, tell-the-same}
 
 -- ---- accepted images and valid states
 
@@ -64,38 +68,104 @@ module _ (v : ℕ) (seen : v ≤ highestLabel) where
         shown = tell-the-same (viewCall v image) (viewCall v image′) refl (a .number ∙ sym (a′ .number)) e refl;
       }
 
--- ---- a list of calls comes to its sum of turns
+-- ---- what a call leaves
 
--- the turns that one call carries out
-abbrev turnsOf : TurnCall → ℕ
-turnsOf c = cond (isAccepted c) (c .n) 0
+-- what a request does to the state
+abbrev carried : Request → State → State
+carried (askTurns n) s = turns n s
+carried (askPost slot label value) s = post slot label value s
 
-module _ (c : TurnCall) (image : List ℕ) (a : Accepted image) (p : CallPromise (turnsCall (c .n) image) (c .out) (c .told) (c .after)) where
-  -- an accepted call leaves the image after its turns, and a refused one the image itself
-  after-call : imageAfter c image ≡ imageBytes (turns (turnsOf c) (stateOf image))
-  unfolding Turn.turnsBy
+request-bytes : (r : Request) (image : List ℕ) → requestCall r image .bytes ≡ imageBytes (carried r (stateOf image))
+request-bytes (askTurns n) image = refl
+request-bytes (askPost slot label value) image = refl
+
+-- a request within its limits keeps states valid
+carried-valid : (r : Request) (image : List ℕ) → Fits r → requestCall r image .argumentNumber ≡ 0 → (s : State) → Valid s → Valid (carried r s)
+carried-valid (askTurns n) image fits none s ok = turns-valid n s ok
+carried-valid (askPost slot label value) image fits none s ok =
+    post-valid slot label value (post-within slot label none .1) fits s ok
+
+module _ (c : HostCall) (image : List ℕ) (a : Accepted image) (p : KeptPromise c image) where
+  -- the state that it leaves
+  abbrev effect : State → State
+  effect s = cond (isAccepted c) (carried (c .request) s) s
+
+  -- an accepted call's number, by what its promise says
+  number-0 : isAccepted c ≡ true → callAnswer (requestCall (c .request) image) (c .out) .number ≡ 0
+  number-0 e = rw (p .1 .0) at (eqb-true (c .told .number) 0 e)
+
+  kept-valid : isAccepted c ≡ true → (s : State) → Valid s → Valid (carried (c .request) s)
+  kept-valid e = carried-valid (c .request) image (p .0) (accepted-exactly (requestCall (c .request) image) (c .out) .0 (number-0 e) .0)
+
+  effect-valid : Valid (effect (stateOf image))
+  effect-valid = split (isAccepted c) (λ e. rw e (kept-valid e (stateOf image) (read-valid image a))) (λ e. rw e (read-valid image a))
+
+  -- an accepted call leaves the image of what it carried out, and a refused one the image itself
+  after-call : imageAfter c image ≡ imageBytes (effect (stateOf image))
   after-call =
+      let call = requestCall (c .request) image in
       split (isAccepted c)
-      (λ e. let number : callAnswer (turnsCall (c .n) image) (c .out) .number ≡ 0 = rw (p .0) at (eqb-true (c .told .number) 0 e) in
-      rw (e, p .0, p .1) (writes-its-answer (turnsCall (c .n) image) (c .out) .accepted number .2))
+      (λ e. rw (e, p .1 .0, p .1 .1) (writes-its-answer call (c .out) .accepted (number-0 e) .2 ∙ request-bytes (c .request) image))
       (λ e. rw e (sym (rewritten image a)))
 
-  after-valid : Valid (turns (turnsOf c) (stateOf image))
-  after-valid = turns-valid (turnsOf c) (stateOf image) (read-valid image a)
-
   after-accepted : Accepted (imageAfter c image)
-  after-accepted = rw after-call (written-accepted (turns (turnsOf c) (stateOf image)) after-valid)
+  after-accepted = rw after-call (written-accepted (effect (stateOf image)) effect-valid)
 
-  after-state : stateOf (imageAfter c image) ≡ turns (turnsOf c) (stateOf image)
-  after-state = rw after-call (image-forth (turns (turnsOf c) (stateOf image)) after-valid)
+  after-state : stateOf (imageAfter c image) ≡ effect (stateOf image)
+  after-state = rw after-call (image-forth (effect (stateOf image)) effect-valid)
 
-after-calls : (cs : List TurnCall) (image : List ℕ) → Accepted image → KeptPromises cs image
-    → finalImage cs image ≡ imageBytes (turns (turnsCarriedOut cs) (stateOf image))
-unfolding Turn.turnsBy
-after-calls [] image a p = sym (rewritten image a)
-after-calls (c ∷ cs) image a p =
-    after-calls cs (imageAfter c image) (after-accepted c image a (p .0)) (p .1)
-    ∙ ap imageBytes (ap (turns (turnsCarriedOut cs)) (after-state c image a (p .0)) ∙ sym (turns-add (turnsOf c) (turnsCarriedOut cs) (stateOf image)))
+final-accepted : (cs : List HostCall) (image : List ℕ) → Accepted image → KeptPromises cs image → Accepted (finalImage cs image)
+final-accepted [] image a p = a
+final-accepted (c ∷ cs) image a p = final-accepted cs (imageAfter c image) (after-accepted c image a (p .0)) (p .1)
+
+-- ---- what a list shows: it ends with the view that its visible posts and its turns alone make
+
+-- from s, which has `at` turns behind it, to `total` turns: the posts, each at its time, and the turns between them
+replay : List VisiblePost → ℕ → ℕ → State → State
+replay [] at total s = turns (total - at) s
+replay (p ∷ ps) at total s = replay ps (p .turnsBefore) total (post (p .slot) (p .label) (p .value) (turns (p .turnsBefore - at) s))
+
+module _ (v : ℕ) where
+  -- from r, with n turns and these posts to come, the end is what they make of any s that shows the same as r after k turns
+  abbrev Follows : State → (ℕ → List VisiblePost) → ℕ → State → Type 0
+  Follows end posts n r =
+      (at k : ℕ) (s : State) → Valid s → view v r ≡ view v (turns k s) → view v end ≡ view v (replay (posts (at + k)) at (at + k + n) s)
+
+  none-follows : (r : State) → Follows r (λ before. []) 0 r
+  unfolding replay
+  none-follows r at k s ok e = let h : at + k + 0 - at ≡ k = omega arith in rw h e
+
+  -- one call more ahead: accepted or not
+  module _ (end : State) (posts : ℕ → List VisiblePost) (n : ℕ) (r : State) (valid : Valid r) where
+    call-follows : (q : Request) (accepted : Bool) → (accepted ≡ true → (s : State) → Valid s → Valid (carried q s))
+        → Follows end posts n (cond accepted (carried q r) r)
+        → Follows end (λ before. cond accepted (postsAsked v before q) [] ++ posts (before + cond accepted (turnsAsked q) 0)) (cond accepted (turnsAsked q) 0 + n) r
+    unfolding replay
+    call-follows q false keeps f at k s ok e = rw (add-zero, zero-add) (f at k s ok e)
+    -- turns: k grows
+    call-follows (askTurns m) true keeps f at k s ok e =
+        let h : at + (k + m) ≡ at + k + m = omega arith in
+        let g : at + k + m + n ≡ at + k + (m + n) = omega arith in
+        rw (h, g) at (f at (k + m) s ok (turns-same v m r (turns k s) valid (turns-valid k s ok) e ∙ ap (view v) (sym (turns-add k m s))))
+    -- a post: where it is seen s comes to it, and else nothing changes
+    call-follows (askPost slot label value) true keeps f at k s ok e =
+        split (flows label v)
+        (λ h. let t = turns k s in
+        let x = post slot label value t in
+        let same : view v (post slot label value r) ≡ view v (turns 0 x)
+        = post-shown v slot label value h r ∙ ap (post slot label value) e ∙ sym (post-shown v slot label value h t) ∙ ap (view v) (turns-none x) in
+        let ago : at + k - at ≡ k = omega arith in
+        let total : at + k + 0 + n ≡ at + k + (0 + n) = omega arith in
+        rw (h, ago) (rw total at (f (at + k) 0 x (keeps refl t (turns-valid k s ok)) same)))
+        (λ h. rw (h, add-zero, zero-add) (f at k s ok (post-hidden v slot label value h r ∙ e)))
+
+  calls-follow : (cs : List HostCall) (image : List ℕ) → Accepted image → KeptPromises cs image
+      → Follows (stateOf (finalImage cs image)) (λ before. postsFrom v before cs) (turnsCarriedOut cs) (stateOf image)
+  calls-follow [] image a p = none-follows (stateOf image)
+  calls-follow (c ∷ cs) image a p =
+      let after = calls-follow cs (imageAfter c image) (after-accepted c image a (p .0)) (p .1) in
+      call-follows (stateOf (finalImage cs (imageAfter c image))) (λ before. postsFrom v before cs) (turnsCarriedOut cs) (stateOf image) (read-valid image a)
+      (c .request) (isAccepted c) (kept-valid c image a (p .0)) (rw (after-state c image a (p .0)) at after)
 
 -- ---- the rule
 
@@ -109,21 +179,17 @@ module _ (v : ℕ) (image image′ : List ℕ) (a : Accepted image) (a′ : Acce
       ∙ ap stateOf e
       ∙ image-forth (view v s′) (view-valid v s′ (read-valid image′ a′))
 
-module _ (v : ℕ) (seen : v ≤ highestLabel) (image image′ : List ℕ) (a : Accepted image) (a′ : Accepted image′) (e : viewBytes v image ≡ viewBytes v image′) where
-  -- after the same number of turns they still do
-  turns-equal : (n : ℕ) → EqualViews v (imageBytes (turns n (stateOf image))) (imageBytes (turns n (stateOf image′)))
-  turns-equal n =
-      let s = stateOf image in
-      let s′ = stateOf image′ in
-      let ok = read-valid image a in
-      let ok′ = read-valid image′ a′ in
-      let t = turns-valid n s ok in
-      let t′ = turns-valid n s′ ok′ in
-      equal-views v seen (imageBytes (turns n s)) (imageBytes (turns n s′)) (written-accepted (turns n s) t) (written-accepted (turns n s′) t′)
-      (ap (λ (r : State). imageBytes (view v r)) (image-forth (turns n s) t)
-      ∙ ap imageBytes (turns-same v n s s′ ok ok′ (states-same v image image′ a a′ e))
-      ∙ ap (λ (r : State). imageBytes (view v r)) (sym (image-forth (turns n s′) t′)))
-
-  pub secrecy : (calls calls′ : List TurnCall) → KeptPromises calls image → KeptPromises calls′ image′ → turnsCarriedOut calls ≡ turnsCarriedOut calls′
+  -- both lists end with the view that the visible posts and the turns make of the first one's start
+  pub secrecy : v ≤ highestLabel → (calls calls′ : List HostCall) → KeptPromises calls image → KeptPromises calls′ image′
+      → turnsCarriedOut calls ≡ turnsCarriedOut calls′ → visiblePosts v calls ≡ visiblePosts v calls′
       → EqualViews v (finalImage calls image) (finalImage calls′ image′)
-  secrecy calls calls′ p p′ n = rw (after-calls calls image a p, after-calls calls′ image′ a′ p′, n) (turns-equal (turnsCarriedOut calls′))
+  secrecy seen calls calls′ p p′ n posts =
+      let s = stateOf image in
+      let ok = read-valid image a in
+      let start = ap (view v) (turns-none s) in
+      let ends = calls-follow v calls image a p 0 0 s ok start in
+      let ends′ = calls-follow v calls′ image′ a′ p′ 0 0 s ok (sym states-same ∙ start) in
+      let same : view v (replay (visiblePosts v calls) 0 (0 + 0 + turnsCarriedOut calls) s) ≡ view v (replay (visiblePosts v calls′) 0 (0 + 0 + turnsCarriedOut calls′) s)
+      = rw (n, posts) in
+      equal-views v seen (finalImage calls image) (finalImage calls′ image′) (final-accepted calls image a p) (final-accepted calls′ image′ a′ p′)
+      (ap imageBytes (ends ∙ same ∙ sym ends′))

@@ -3,17 +3,20 @@
 -- `recordExtent` (image/specs/Part.antt).
 use Prim.Native.Nat.{ℕ}
 use mathlib.Core.Path.{_≡_}
-use mathlib.Core.Bool.{cond}
+use mathlib.Core.Bool.{Bool, cond, _&&_}
 use mathlib.Core.List.{List}
 use lib.Dec.{eqb}
 use lib.ListN.{length}
 use Rattle.wire.specs.Output.{overwrite}
+use Rattle.machine.specs.Post.{post, delivered}
 use Rattle.machine.specs.Machine.{turns, busy, view}
 use Rattle.image.specs.Image.{stateOf, imageBytes}
-use Rattle.image.specs.Refusal.{observerNumber, turnLimitNumber, firstMet}
+use Rattle.image.specs.Refusal.{observerNumber, turnLimitNumber, postNumber, firstMet}
 use Rattle.monitor.specs.declared.Answer.{Answer}
+use Rattle.monitor.specs.declared.PostAnswer.{PostAnswer}
 
--- a call: the number of its argument, 0 where it is within its limit or there is none; its image; the bytes to write; the busy count
+-- a call: the number of its arguments, 0 where they are within their limits or there are none; its image; the bytes to write; the
+-- busy count
 pub record Call : Type 0 where
   pub argumentNumber : ℕ
   pub image : List ℕ
@@ -51,6 +54,22 @@ rewriteCall image = record { argumentNumber = 0; image = image; bytes = imageByt
 abbrev pub turnsCall : ℕ → List ℕ → Call
 turnsCall n image =
     record { argumentNumber = turnLimitNumber n; image = image; bytes = imageBytes (turns n (stateOf image)); busy = busy n (stateOf image) }
+
+-- ---- post: the image once the host's message has gone to a slot (02, U1)
+
+abbrev pub postCall : ℕ → ℕ → ℕ → List ℕ → Call
+postCall slot label value image =
+    record { argumentNumber = postNumber slot label; image = image; bytes = imageBytes (post slot label value (stateOf image)); busy = 0 }
+
+-- "The answer says delivered or dropped [..]; a refusal says dropped."
+abbrev pub postDelivered : ℕ → ℕ → ℕ → List ℕ → List ℕ → Bool
+postDelivered slot label value image out =
+    eqb (callNumber (postCall slot label value image) out) 0 && delivered slot label value (stateOf image)
+
+-- what the code promises of a post: what every call that writes does, and whether its message was delivered
+abbrev pub PostPromise : ℕ → ℕ → ℕ → List ℕ → List ℕ → PostAnswer → List ℕ → Type 0
+PostPromise slot label value image out told after =
+    CallPromise (postCall slot label value image) out (told .answer) after × (told .delivered ≡ postDelivered slot label value image out)
 
 -- ---- view: the view for label v
 

@@ -1,13 +1,16 @@
 -- The claims: each a named type under the sentence that it answers; proofs/Claims.antt inhabits them.
-use Prim.Native.Nat.{ℕ, _+_, _<_, _≤_}
+use Prim.Native.Nat.{ℕ, _+_, _^_, _<_, _≤_}
 use mathlib.Core.Logic.{_≢_}
 use mathlib.Core.Path.{_≡_}
+use mathlib.Core.Bool.{false, _&&_}
 use mathlib.Core.List.{List, []}
 use lib.ListN.{length, take, drop}
 use Rattle.wire.specs.Lists.{Bytes}
 use Rattle.wire.specs.Output.{overwrite}
 use Rattle.machine.specs.Limits.{highestLabel, highestSlot, shortestImage, longestImage, turnLimit}
-use Rattle.machine.specs.State.{State, slotAt}
+use Rattle.machine.specs.State.{State, slotAt, hasLiveTask}
+use Rattle.machine.specs.Turn.{hasRoom}
+use Rattle.machine.specs.Post.{mailOf}
 use Rattle.machine.specs.Valid.{Valid}
 use Rattle.image.specs.Record.{recordBytes}
 use Rattle.image.specs.declared.Extent.{Extent}
@@ -15,8 +18,8 @@ use Rattle.image.specs.Image.{programOf, turnSlotOf, stateOf, imageBytes}
 use Rattle.image.specs.Refusal.{imageNumber}
 use Rattle.image.specs.Part.{recordStart, recordPart, recordExtent}
 use Rattle.monitor.specs.declared.Answer.{Answer}
-use Rattle.monitor.specs.Calls.{Call, callAnswer, callOutput, CallPromise, rewriteCall, turnsCall, viewBytes, viewCall}
-use Rattle.monitor.specs.CallList.{TurnCall, finalImage, turnsCarriedOut, KeptPromises}
+use Rattle.monitor.specs.Calls.{Call, callAnswer, callOutput, CallPromise, rewriteCall, turnsCall, postCall, postDelivered, viewBytes, viewCall}
+use Rattle.monitor.specs.CallList.{HostCall, finalImage, turnsCarriedOut, visiblePosts, KeptPromises}
 
 -- an accepted image: bytes whose number is 0
 pub record Accepted (image : List ℕ) : Type 0 where
@@ -29,8 +32,8 @@ Exactly A B = (A → B) × (B → A)
 
 -- ---- demand 1: what a call tells and writes
 
--- "Numbers a caller may receive": 0 and those of the table, 1 and 2 "each only in the call that has that argument"; an image
--- by itself has 0 or one of 3 to 12
+-- "Numbers a caller may receive": 0 and those of the table, 1 and 2 "each only in the call that has that argument", and so are a
+-- post's 14 and 15; an image by itself has 0 or one of 3 to 12
 abbrev pub NumbersAreListed : Type 0
 NumbersAreListed =
     (image out : List ℕ)
@@ -38,20 +41,26 @@ NumbersAreListed =
     × ((callAnswer (rewriteCall image) out .number ≤ 13) × (callAnswer (rewriteCall image) out .number ≢ 1) × (callAnswer (rewriteCall image) out .number ≢ 2))
     × ((n : ℕ) → (callAnswer (turnsCall n image) out .number ≤ 13) × (callAnswer (turnsCall n image) out .number ≢ 1))
     × ((v : ℕ) → (callAnswer (viewCall v image) out .number ≤ 13) × (callAnswer (viewCall v image) out .number ≢ 2))
+    × ((slot label value : ℕ)
+    → (callAnswer (postCall slot label value image) out .number ≤ 15)
+    × (callAnswer (postCall slot label value image) out .number ≢ 1)
+    × (callAnswer (postCall slot label value image) out .number ≢ 2))
 
--- 1 "the label asked for is above 15", 2 "more than 1,000,000 turns": then, whatever the image and the output are, and at no
--- other time
+-- 1 "the label asked for is above 15", 2 "more than 1,000,000 turns"; of a post "a slot above 15 with 14 and then a label above 15
+-- with 15, both before the image is read": then, whatever the image and the output are, and at no other time
 abbrev pub LimitsAreRefused : Type 0
 LimitsAreRefused =
     (image out : List ℕ)
     → ((v : ℕ) → Exactly (callAnswer (viewCall v image) out .number ≡ 1) (highestLabel < v))
     × ((n : ℕ) → Exactly (callAnswer (turnsCall n image) out .number ≡ 2) (turnLimit < n))
+    × ((slot label value : ℕ) → Exactly (callAnswer (postCall slot label value image) out .number ≡ 14) (highestSlot < slot))
+    × ((slot label value : ℕ) → Exactly (callAnswer (postCall slot label value image) out .number ≡ 15) ((slot ≤ highestSlot) × (highestLabel < label)))
 
--- "The first met is given; none of them in any other event": each number of a call by what gives it. 1 and 2 come from the
--- argument alone; 3 to 12 from the image alone, where the argument has none; 13 from the output, where neither has one
+-- "The first met is given; none of them in any other event": each number of a call by what gives it. 3 to 12 come from the image
+-- alone, where the arguments have none; 13 from the output, where neither has one; every other from the arguments alone
 pub record NumbersByCause (c : Call) (out : List ℕ) : Type 0 where
   pub accepted : Exactly (callAnswer c out .number ≡ 0) ((c .argumentNumber ≡ 0) × (imageNumber (c .image) ≡ 0) × (length (c .bytes) ≤ length out))
-  pub fromArgument : (k : ℕ) → 1 ≤ k → k ≤ 2 → Exactly (callAnswer c out .number ≡ k) (c .argumentNumber ≡ k)
+  pub fromArgument : (k : ℕ) → 1 ≤ k → (3 ≤ k → k ≤ 13 → ⊥) → Exactly (callAnswer c out .number ≡ k) (c .argumentNumber ≡ k)
   pub fromImage : (k : ℕ) → 3 ≤ k → k ≤ 12 → Exactly (callAnswer c out .number ≡ k) ((c .argumentNumber ≡ 0) × (imageNumber (c .image) ≡ k))
   pub fromOutput : Exactly (callAnswer c out .number ≡ 13) ((c .argumentNumber ≡ 0) × (imageNumber (c .image) ≡ 0) × (length out < length (c .bytes)))
 
@@ -61,14 +70,16 @@ NoneInAnyOtherEvent =
     → NumbersByCause (rewriteCall image) out
     × ((n : ℕ) → NumbersByCause (turnsCall n image) out)
     × ((v : ℕ) → NumbersByCause (viewCall v image) out)
+    × ((slot label value : ℕ) → NumbersByCause (postCall slot label value image) out)
 
--- "1,000,000 turns accepted"; an output as long as the longest image is long enough for every call
+-- "1,000,000 turns accepted", and posts that are dropped too; an output as long as the longest image is long enough for every call
 abbrev pub OthersAreAccepted : Type 0
 OthersAreAccepted =
     (image out : List ℕ) → Accepted image → longestImage ≤ length out
     → (callAnswer (rewriteCall image) out .number ≡ 0)
     × ((n : ℕ) → n ≤ turnLimit → callAnswer (turnsCall n image) out .number ≡ 0)
     × ((v : ℕ) → v ≤ highestLabel → callAnswer (viewCall v image) out .number ≡ 0)
+    × ((slot label value : ℕ) → slot ≤ highestSlot → label ≤ highestLabel → value < 2 ^ 32 → callAnswer (postCall slot label value image) out .number ≡ 0)
 
 -- "A refused call writes no byte and tells its number, length 0 and busy count 0; an accepted one tells number 0. An
 -- accepted call writes only the bytes of its answer."
@@ -81,6 +92,17 @@ pub record WritesItsAnswer (c : Call) (a : Answer) (out after : List ℕ) : Type
 
 abbrev pub CallsWriteTheirAnswer : Type 0
 CallsWriteTheirAnswer = (c : Call) (out : List ℕ) → WritesItsAnswer c (callAnswer c out) out (callOutput c out)
+
+-- "Delivery and dropping follow the send rule, less the sender check. The answer says delivered or dropped [..]; a refusal says
+-- dropped."
+pub record TellsDelivery (slot label value : ℕ) (image out : List ℕ) : Type 0 where
+  pub refused : callAnswer (postCall slot label value image) out .number ≢ 0 → postDelivered slot label value image out ≡ false
+  pub accepted : callAnswer (postCall slot label value image) out .number ≡ 0
+      → postDelivered slot label value image out
+      ≡ (hasLiveTask (slotAt (stateOf image .slots) slot) && hasRoom label (mailOf (slotAt (stateOf image .slots) slot)))
+
+abbrev pub PostsTellDelivery : Type 0
+PostsTellDelivery = (slot label value : ℕ) (image out : List ℕ) → TellsDelivery slot label value image out
 
 -- "The reader hands back each record as the part of the caller's image that holds it. The part is the record's bytes
 -- without the 2-byte length. That part is empty for an unused slot, a slot number above 15 or a refused image."
@@ -145,14 +167,18 @@ pub record EqualViews (v : ℕ) (image image′ : List ℕ) : Type 0 where
   pub right : Accepted image′
   pub shown : TellTheSame (viewCall v image) (viewCall v image′)
 
--- "The two lists start from two accepted images whose views for v are the same bytes." Each holds any turn calls, with any
--- n and any output, refused ones included. "It is a single claim about two whole lists, for every v". It is about the code:
--- the calls are known by what they told and wrote, and of that only what the code promises (proofs/Promises.antt).
+-- "The two lists start from two accepted images whose views for v are the same bytes." Each holds any turn calls and posts, with
+-- any arguments and any output, refused ones included. They carry out the same number of turns in all; "if the accepted posts whose
+-- label flows to the observer agree in both lists, each after the same number of turns and in the same order, equal starting views
+-- give equal views; other posts are free." Lists of turn calls alone are the case without posts. "It is a single claim about two
+-- whole lists, for every v". It is about the code: the calls are known by what they told and wrote, and of that only what the code
+-- promises (proofs/Promises.antt).
 abbrev pub Secrecy : Type 0
 Secrecy =
     (v : ℕ) → v ≤ highestLabel
     → (image image′ : List ℕ) → Accepted image → Accepted image′ → viewBytes v image ≡ viewBytes v image′
-    → (calls calls′ : List TurnCall) → KeptPromises calls image → KeptPromises calls′ image′ → turnsCarriedOut calls ≡ turnsCarriedOut calls′
+    → (calls calls′ : List HostCall) → KeptPromises calls image → KeptPromises calls′ image′
+    → turnsCarriedOut calls ≡ turnsCarriedOut calls′ → visiblePosts v calls ≡ visiblePosts v calls′
     → EqualViews v (finalImage calls image) (finalImage calls′ image′)
 
 -- for accepted images, views that are the same bytes are equal views, and the other way round

@@ -1,4 +1,4 @@
--- The checked examples that 01 marks P, and two rows more, as one claim about the definitions.
+-- The checked examples that 01 marks P, and rows for posts (02, U1) and the secrecy rule, as one claim about the definitions.
 use Prim.Native.Nat.{ℕ, _+_}
 use mathlib.Core.Path.{_≡_}
 use mathlib.Core.Bool.{true, false}
@@ -6,12 +6,14 @@ use mathlib.Core.List.{List, [], _∷_, _++_}
 use lib.ListN.{length, set, replicate}
 use Rattle.label.specs.Label.{flows}
 use Rattle.machine.specs.State.{Message, Task, Slot, unused, used, State, withKind, withSpare, withRegister, withMailbox, next}
+use Rattle.machine.specs.Post.{post, delivered}
 use Rattle.machine.specs.Machine.{turns, busy, view}
 use Rattle.image.specs.Record.{mailboxAt}
 use Rattle.image.specs.Image.{imageBytes}
 use Rattle.image.specs.Refusal.{imageNumber}
 use Rattle.image.specs.Examples.{task, message, one, two}
-use Rattle.monitor.specs.Calls.{callAnswer, rewriteCall, turnsCall, viewBytes, viewCall}
+use Rattle.monitor.specs.Calls.{refusal, callAnswer, rewriteCall, turnsCall, postCall, viewBytes, viewCall}
+use Rattle.monitor.specs.CallList.{Request, askTurns, askPost, HostCall, VisiblePost, visiblePosts}
 
 abbrev pub state : List ℕ → ℕ → List Slot → State
 state program turnSlot slots = record { program = program; turnSlot = turnSlot; slots = slots }
@@ -66,6 +68,19 @@ parentOf s spare = next (withRegister 0 s (withSpare spare parent))
 abbrev pub subtract : List ℕ
 subtract = 0x04 ∷ 0 ∷ 0 ∷ 1 ∷ []
 
+-- ---- posts
+
+-- calls as they went, as far as the posts that an observer may know of go by them: accepted, and refused
+abbrev pub told : ℕ → Request → HostCall
+told number r = record { request = r; out = []; told = refusal number; after = [] }
+
+abbrev pub accepted : Request → HostCall
+accepted = told 0
+
+-- the visible post of this value to slot 5, with label 0, after so many turns
+abbrev pub visible : ℕ → ℕ → VisiblePost
+visible turnsBefore value = record { turnsBefore = turnsBefore; slot = 5; label = 0; value = value }
+
 -- ---- the rows
 
 pub record Examples : Type 0 where
@@ -90,6 +105,34 @@ pub record Examples : Type 0 where
   -- P9: four waiting messages of label 2, a fifth of label 2 dropped, one of label 0 kept.
   pub p9 : (turns 1 (b 0 2 (waiting [])) ≡ after 2 1 (waiting []))
       × (turns 1 (b 0 0 (waiting [])) ≡ after 0 1 (waiting (message 0 0 700 ∷ [])))
+  -- U1: a post to slot 5 of B comes from sender 16 and is delivered, also with a label that its task cannot receive; a fifth of its
+  -- label is dropped, and so is one to a task that has stopped or to an unused slot
+  pub delivery : (post 5 0 9 (b 0 0 receiver) ≡ b 0 0 (withMailbox (message 0 16 9 ∷ []) receiver))
+      × (delivered 5 0 9 (b 0 0 receiver) ≡ true)
+      × (delivered 5 8 9 (b 0 0 receiver) ≡ true)
+      × (post 5 2 9 (b 0 0 (waiting [])) ≡ b 0 0 (waiting []))
+      × (delivered 5 2 9 (b 0 0 (waiting [])) ≡ false)
+      × (delivered 5 0 9 (b 0 0 (waiting [])) ≡ true)
+      × (post 5 0 9 (b 0 0 (withKind 2 receiver)) ≡ b 0 0 (withKind 2 receiver))
+      × (delivered 5 0 9 (b 0 0 (withKind 2 receiver)) ≡ false)
+      × (delivered 6 0 9 (b 0 0 receiver) ≡ false)
+  -- register 3 gets a post's value and register 4 its sender, 16
+  pub taken : turns 6 (post 5 0 9 (b 1 0 receiver))
+      ≡ state (program 0) 6 (two 0 (withKind 4 (sender 1)) 5 (next (withRegister 4 16 (withRegister 3 9 receiver))))
+  -- "It refuses a slot above 15 with 14 and then a label above 15 with 15, both before the image is read."
+  pub postOrder : (callAnswer (postCall 16 16 0 []) [] .number ≡ 14)
+      × (callAnswer (postCall 15 16 0 []) [] .number ≡ 15)
+      × (callAnswer (postCall 15 15 0 []) [] .number ≡ 3)
+      × (callAnswer (postCall 15 15 0 (bImage unused)) [] .number ≡ 13)
+  -- "the accepted posts whose label flows to the observer agree in both lists, each after the same number of turns and in the same
+  -- order [..]; other posts are free": what observer 0 may know of lists with a post of label 0 after 3 turns. Hidden posts that
+  -- differ, and refused ones, are not in it
+  pub posts : (visiblePosts 0 (accepted (askTurns 3) ∷ accepted (askPost 5 1 7) ∷ accepted (askPost 5 0 9) ∷ []) ≡ visible 3 9 ∷ [])
+      × (visiblePosts 0 (accepted (askPost 4 8 8) ∷ accepted (askTurns 3) ∷ told 13 (askPost 5 0 6) ∷ accepted (askPost 5 0 9) ∷ []) ≡ visible 3 9 ∷ [])
+  -- one turn late is another list, and so is the other order
+  pub late : visiblePosts 0 (accepted (askTurns 3) ∷ told 2 (askTurns 1000001) ∷ accepted (askTurns 1) ∷ accepted (askPost 5 0 9) ∷ []) ≡ visible 4 9 ∷ []
+  pub reordered : (visiblePosts 0 (accepted (askPost 5 0 8) ∷ accepted (askPost 5 0 9) ∷ []) ≡ visible 0 8 ∷ visible 0 9 ∷ [])
+      × (visiblePosts 0 (accepted (askPost 5 0 9) ∷ accepted (askPost 5 0 8) ∷ []) ≡ visible 0 9 ∷ visible 0 8 ∷ [])
   -- "Order: 1 or 2 first, each only in the call that has that argument. Then the image from front to back [..] 13." "1,000,001
   -- refused with 2."
   pub order : (callAnswer (viewCall 16 []) [] .number ≡ 1)

@@ -1,13 +1,14 @@
 // The monitor's calls. Each takes any bytes and refuses what it cannot take; what the calls mean and what is claimed of
 // them stands in specs/.
 ghost use mathlib.Core.Path.{_≡_};
+ghost use mathlib.Core.Bool.{false};
 ghost use denote.Ref.{ptr};
 ghost use Rattle.wire.specs.Slices.{offsetBy};
 ghost use Rattle.wire.specs.Inner.{written};
-ghost use Rattle.image.specs.Refusal.{imageNumber};
+ghost use Rattle.image.specs.Refusal.{postNumber, imageNumber};
 ghost use Rattle.image.specs.Part.{recordPart, recordExtent};
 ghost use Rattle.snapshot.specs.Writing.{snapshotBytes};
-ghost use Rattle.monitor.specs.Calls.{refusal, CallPromise, rewriteCall, turnsCall, viewCall};
+ghost use Rattle.monitor.specs.Calls.{refusal, CallPromise, rewriteCall, turnsCall, PostPromise, viewCall};
 ghost use Rattle.monitor.specs.Inner.{outputAnswer};
 
 // What a call tells: 01's number, 0 where it is accepted; the length of what it wrote; the turns that met a live task.
@@ -15,6 +16,12 @@ pub struct Answer {
     pub number: u8,
     pub length: usize,
     pub busy: u64,
+}
+
+// What a post tells: what every call that writes tells, and whether its message was delivered; where it was not, it was dropped.
+pub struct PostAnswer {
+    pub answer: Answer,
+    pub delivered: bool,
 }
 
 // The number of an image, 0 where it is accepted. Nothing is written.
@@ -118,5 +125,51 @@ pub fn turns(image: &[u8], count: u64, out: &mut [u8]) -> Answer
         write_answer(out, &table, image, ran.turn, 15, ran.busy)
     } else {
         refused(number)
+    }
+}
+
+// The number of a post's arguments: 14 slot, then 15 label.
+fn post_number(slot: u32, label: u32) -> u8
+    ensures { λ r. ⌜ r ≡ postNumber slot label ⌝ }
+{
+    if slot > 15 {
+        14
+    } else if label > 15 {
+        15
+    } else {
+        0
+    }
+}
+
+// What a refused post tells.
+fn dropped(number: u8) -> PostAnswer
+    ensures { λ r. ⌜ r ≡ record { answer = refusal number; delivered = false } ⌝ }
+{
+    PostAnswer {
+        answer: refused(number),
+        delivered: false,
+    }
+}
+
+// Writes the image once the host's message has gone to a slot, and tells whether it was delivered.
+pub fn post(image: &[u8], slot: u32, label: u32, value: u32, out: &mut [u8]) -> PostAnswer
+    ensures { λ r. ⌜ PostPromise slot label value (now (image .entry)) (now (out .entry)) r (now (out .exit)) ⌝ }
+{
+    let beyond = post_number(slot, label);
+    if beyond > 0 {
+        return dropped(beyond);
+    }
+    let mut table: table::Table = [0; table::WORDS];
+    let number = snapshot::load(&mut table, image);
+    if number == 0 {
+        let joined = turn::deliver(&mut table, slot, label as u8, image::HOST, value);
+        let turn = image::turn_slot(image);
+        let answer = write_answer(out, &table, image, turn, 15, 0);
+        PostAnswer {
+            answer: answer,
+            delivered: (answer.number == 0) & joined,
+        }
+    } else {
+        dropped(number)
     }
 }

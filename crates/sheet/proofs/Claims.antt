@@ -3,7 +3,7 @@ use mathlib.Core.Path.{refl, sym, ap, _∙_}
 use native.Mathlib.Omega.{arith}
 use Rattle.machine.specs.Limits.{highestLabel}
 use Rattle.monitor.specs.CallList.{finalImage}
-use Rattle.monitor.proofs.Calls.{observer-listed, observer-low, numbers-by-cause, limit-exactly, tell-the-same}
+use Rattle.monitor.proofs.Calls.{observer-listed, observer-number, numbers-by-cause, limit-exactly, tell-the-same}
 use Rattle.monitor.proofs.Secrecy.{equal-bytes, states-same}
 use Rattle.monitor.proofs.Claims.{secrecy}
 use Rattle.sheet.specs.Sheet.{sheetText, sheetCall}
@@ -14,10 +14,10 @@ pub sheet-numbers-are-listed : SheetNumbersAreListed
 sheet-numbers-are-listed v image out = observer-listed (sheetCall v image) out v refl
 
 pub sheet-limit-is-refused : SheetLimitIsRefused
-sheet-limit-is-refused v image out = limit-exactly (sheetCall v image) out v highestLabel 1 refl (omega arith) (omega arith)
+sheet-limit-is-refused v image out = limit-exactly (sheetCall v image) out v highestLabel 1 refl (omega arith) (λ low high. omega arith)
 
 pub sheet-numbers-by-cause : SheetNumbersByCause
-sheet-numbers-by-cause v image out = numbers-by-cause (sheetCall v image) out (observer-low v)
+sheet-numbers-by-cause v image out = numbers-by-cause (sheetCall v image) out (observer-number v)
 
 pub sheets-fit : SheetLength
 sheets-fit v image a = sheet-fits v image (a .bytes) (a .number)
@@ -27,7 +27,7 @@ sheets-follow-views v image image′ a a′ e =
     tell-the-same (sheetCall v image) (sheetCall v image′) refl (a .number ∙ sym (a′ .number)) (ap sheetText (states-same v image image′ a a′ e)) refl
 
 pub sheet-secrecy : SheetSecrecy
-sheet-secrecy v seen image image′ a a′ e calls calls′ p p′ n =
-    let ends = secrecy v seen image image′ a a′ e calls calls′ p p′ n in
+sheet-secrecy v seen image image′ a a′ e calls calls′ p p′ n posts =
+    let ends = secrecy v seen image image′ a a′ e calls calls′ p p′ n posts in
     sheets-follow-views v (finalImage calls image) (finalImage calls′ image′) (ends .left) (ends .right)
     (equal-bytes v seen (finalImage calls image) (finalImage calls′ image′) ends)

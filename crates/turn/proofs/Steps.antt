@@ -28,6 +28,14 @@ use Rattle.table.specs.Change.{taskOr, taskAt, slotWithKind}
 use Rattle.turn.specs.Effects.{executed, RoomFor, Ready, WasDecoded}
 use Rattle.turn.proofs.Effects.{kind-here}
 
+-- a mailbox of a valid state has room in the table where it has fewer than four messages of a label
+pub valid-room : {s : State} → Valid s → (j l : ℕ) → l ≤ 15 → RoomFor l (taskAt (s .slots) j .mailbox)
+valid-room {s} ok j = roomy (slotAt (s .slots) j) (slot-facts (count (s .program)) j (slotAt (s .slots) j) (ok .tasks j))
+  where
+    roomy : (x : Slot) → SlotFacts (count (s .program)) j x → (l : ℕ) → l ≤ 15 → RoomFor l (taskOr x .mailbox)
+    roomy unused f l h room = omega arith
+    roomy (used t) f l h room = mailbox-room (t .mailbox) (f .mailbox) l h room
+
 -- ---- what a live task does with its turn
 
 -- a live task is there
@@ -81,12 +89,8 @@ module _ (program : List ℕ) (s : ℕ) (ss : List Slot) (live : hasLiveTask (sl
         record {
           here = here;
           place = omega (arith, own .pc, size-facts (length program) (ok .size) .2);
-          room = λ j. roomy j (slotAt ss j) (slot-facts n j (slotAt ss j) (ok .tasks j));
+          room = valid-room ok;
         }
-      where
-        roomy : (j : ℕ) (x : Slot) → SlotFacts (count program) j x → (l : ℕ) → l ≤ 15 → RoomFor l (taskOr x .mailbox)
-        roomy j unused f l h room = omega arith
-        roomy j (used t) f l h room = mailbox-room (t .mailbox) (f .mailbox) l h room
 
 -- ---- one turn
 

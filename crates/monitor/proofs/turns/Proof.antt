@@ -49,7 +49,7 @@ turns-requires c κs = loaded-valid (image c) (bytes c) (accepted c) (same c)
 returns : tie.Need-returns
 returns c =
     let above = lt-leb (c .before .before .before .before .args .count) turnLimit (omega arith) in
-    call-beyond _ _ 1 (rw above) (c .refused .ensures)
+    call-beyond _ _ (rw above) (λ e. omega arith) (c .refused .ensures)
 
 -- an accepted image
 returns-2 : tie.Need-returns-2
@@ -61,7 +61,7 @@ returns-2 c =
     let ran = r .ensures .1 ∙ ap (λ (s : State). Machine.turns n s .slots) (same p) in
     let written =
     ap (λ (x : RunAnswer). snapshotBytes (r .last .0) (image p) (x .turn) 15) told
-    ∙ turns-written (image p) (bytes p) (r .last .0) n (accepted p) ran in
+    ∙ turns-written (image p) (bytes p) (r .last .0) (accepted p) n ran in
     let within = le-leb n turnLimit (omega arith) in
     call-accepted _ _ (rw within) (accepted p) written (ap (λ (x : RunAnswer). x .busy) told) (c .before .before .write-answer .ensures)
 

@@ -17,7 +17,7 @@ use Rattle.monitor.proofs.view.Tie as tie
 returns : tie.Need-returns
 returns c =
     let above = lt-leb (c .before .before .before .before .args .observer) highestLabel (omega arith) in
-    call-beyond _ _ 0 (rw above) (c .refused .ensures)
+    call-beyond _ _ (rw above) (λ e. omega arith) (c .refused .ensures)
 
 -- an accepted image
 returns-2 : tie.Need-returns-2

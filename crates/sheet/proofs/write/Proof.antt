@@ -20,7 +20,7 @@ use Rattle.sheet.proofs.write.Tie as tie
 returns : tie.Need-returns
 returns c =
     let above = lt-leb (c .before .before .before .before .args .observer) highestLabel (omega arith) in
-    call-beyond _ _ 0 (rw above) (c .refused .ensures)
+    call-beyond _ _ (rw above) (λ e. omega arith) (c .refused .ensures)
 
 -- an accepted image: the number, and the sheet of the table
 accepted : (c : tie.Then2) → imageNumber (now (c .before .before .before .before .before .before .args .image)) ≡ 0

@@ -1,0 +1,115 @@
+-- `monitor::post` meets its contract: an accepted image is loaded, the message is delivered or dropped, and it is written for label 15.
+use borrow.Author.Needs.{needs}
+use Prim.Native.Nat.{ℕ, _≤_}
+use mathlib.Core.Path.{_≡_, refl, sym, ap, _∙_}
+use mathlib.Core.List.{List}
+use native.Mathlib.Omega.{arith}
+use denote.Ref.{now}
+use Rattle.wire.specs.Lists.{Bytes}
+use Rattle.wire.proofs.Lists.{IsByte, every-of}
+use Rattle.machine.specs.Limits.{highestLabel}
+use Rattle.machine.specs.State.{Slot}
+use Rattle.machine.specs.Effect.{deliver}
+use Rattle.machine.specs.Turn.{perform}
+use Rattle.machine.specs.Post.{hostMessage, hasMore}
+use Rattle.machine.specs.Post as Post
+use Rattle.image.specs.Image.{stateOf}
+use Rattle.image.specs.Refusal.{postNumber, imageNumber}
+use Rattle.table.specs.Table.{slotsIn}
+use Rattle.snapshot.specs.Writing.{snapshotBytes}
+use Rattle.snapshot.proofs.Loading.{loaded-accepted}
+use Rattle.turn.proofs.Steps.{valid-room}
+use Rattle.image.proofs.Image.{accepted-valid}
+use Rattle.monitor.proofs.Calls.{post-within, call-accepted}
+use Rattle.monitor.proofs.Posts.{post-beyond, post-refused, post-done}
+use Rattle.monitor.proofs.Pipeline.{post-written}
+use Rattle.monitor.proofs.post.Statement.{statement}
+use Rattle.monitor.proofs.post.Tie as tie
+
+no-number : {k n : ℕ} → k ≡ n → k ≤ 0 → n ≡ 0
+no-number e low = omega (arith, e)
+
+-- ---- where the message of an image that was loaded is to be delivered
+
+module _ (p : tie.After-table2) where
+  abbrev image : List ℕ
+  image = now (p .before .before .before .before .before .before .before .before .args .image)
+
+  abbrev slot : ℕ
+  slot = p .before .before .before .before .before .before .before .before .args .slot
+
+  abbrev label : ℕ
+  label = p .before .before .before .before .before .before .before .before .args .label
+
+  bytes : Bytes image
+  bytes = every-of IsByte 0 image (λ i. p .before .before .before .before .before .before .before .shared-slice-known .given i .fits)
+
+  accepted : imageNumber image ≡ 0
+  accepted = sym (p .before .before .load .ensures .0) ∙ p .before .if2 .taken
+
+  loaded : slotsIn (p .before .before .load .last .0) ≡ stateOf image .slots
+  loaded = p .before .before .load .ensures .1 ∙ loaded-accepted image _ accepted
+
+  -- the arguments are within their limits
+  none : postNumber slot label ≡ 0
+  none = no-number (p .before .before .before .before .before .post-number .ensures) (p .before .before .before .before .if1 .left)
+
+  label-low : label ≤ highestLabel
+  label-low = post-within slot label none .1
+
+cast-deliver : tie.Need-cast-deliver
+cast-deliver c = omega (arith, label-low c)
+
+deliver-requires : tie.Need-deliver-requires
+deliver-requires c κs = rw (loaded c) (valid-room (accepted-valid (image c) (bytes c) (accepted c)) (slot c) (label c) (label-low c))
+
+-- ---- the answers
+
+-- arguments beyond their limits
+returns : tie.Need-returns
+returns c =
+    let a = c .before .before .before .before .before .args in
+    post-beyond (a .slot) (a .label) (a .value) (now (a .image)) (now (a .out))
+    (λ e. omega (arith, c .before .if1 .taken)) (c .dropped .ensures) (c .before .before .post-number .ensures)
+
+-- an accepted image
+returns-2 : tie.Need-returns-2
+unfolding Post.post
+returns-2 c =
+    let p = c .before .before .before .before .before .before .before .before in
+    let a = p .before .before .before .before .before .before .before .before .args in
+    let s = stateOf (image p) in
+    let d = c .before .before .before .before .before .before .before .deliver in
+    let words = d .last .0 in
+    let posted : slotsIn words ≡ Post.post (a .slot) (a .label) (a .value) s .slots
+    = d .ensures .0 ∙ ap (perform (deliver (a .slot) (hostMessage (a .label) (a .value)))) (loaded p) in
+    let joined = d .ensures .1 ∙ ap (λ (ss : List Slot). hasMore (a .slot) ss (slotsIn words)) (loaded p) ∙ ap (hasMore (a .slot) (s .slots)) posted in
+    let written =
+    ap (λ (t : ℕ). snapshotBytes words (image p) t 15) (c .before .before .before .before .before .before .turn-slot .ensures)
+    ∙ post-written (image p) (bytes p) words (accepted p) (a .slot) (a .label) (a .value) (label-low p) (omega arith) posted in
+    post-done (a .slot) (a .label) (a .value) (image p) (now (a .out)) joined
+    (call-accepted _ _ (none p) (accepted p) written refl (c .before .before .before .write-answer .ensures))
+
+-- a refused one
+returns-3 : tie.Need-returns-3
+returns-3 c =
+    let a = c .before .before .before .before .before .before .before .before .args in
+    post-refused (a .slot) (a .label) (a .value) (now (a .image)) (now (a .out)) (c .before .if2 .left) (c .dropped2 .ensures)
+    (no-number (c .before .before .before .before .before .post-number .ensures) (c .before .before .before .before .if1 .left)) (c .before .before .load .ensures .0)
+
+pub post-spec : {M : Type 1} → statement M
+post-spec =
+    tie.close
+    (tie.spec
+    (λ c κs. tt)
+    (λ c κs. tt)
+    returns
+    (λ c κs. tt)
+    cast-deliver
+    deliver-requires
+    (λ c κs. tt)
+    (λ c κs. tt)
+    (λ c κs. tt)
+    (λ c. search needs)
+    returns-2
+    returns-3)
