@@ -2,15 +2,17 @@
 -- wrote is a call as the claims take it.
 use Prim.Native.Nat.{ℕ}
 use mathlib.Core.Path.{_≡_, sym, _∙_}
+use mathlib.Core.Bool.{cond}
 use mathlib.Core.List.{List}
 use denote.Ref.{now}
 use Rattle.wire.specs.Lists.{Bytes}
 use Rattle.image.specs.Refusal.{imageNumber}
 use Rattle.image.specs.Part.{recordExtent}
-use Rattle.monitor.specs.Calls.{Call, callAnswer, CallPromise, rewriteCall, turnsCall, viewCall}
+use Rattle.monitor.specs.Calls.{Call, callAnswer, CallPromise, rewriteCall, turnsCall, postCall, postDelivered, viewCall}
+use Rattle.monitor.specs.CallList.{Request, askPost, requestCall, Fits, KeptPromise}
 use Rattle.monitor.specs.Claims.{Accepted, Exactly}
 use Rattle.monitor.proofs.Calls.{busy-0}
-use Rattle.monitor.proofs.Keeps.{Keeps, imageOf, slotNumberOf, countOf, observerOf, outputOf, soleOutputOf}
+use Rattle.monitor.proofs.Keeps.{Keeps, imageOf, slotNumberOf, countOf, observerOf, outputOf, labelOf, valueOf, postOutputOf, soleOutputOf}
 use Rattle.sheet.specs.Sheet.{sheetCall}
 use Rattle.rithennaw.specs.Told.{Told}
 use Rattle.rithennaw.proofs.rithennaw_check as Check
@@ -25,6 +27,9 @@ use Rattle.rithennaw.proofs.rithennaw_rewrite.Met as RewriteMet
 use Rattle.rithennaw.proofs.rithennaw_turns as Turns
 use Rattle.rithennaw.proofs.rithennaw_turns.Symbol as TurnsCode
 use Rattle.rithennaw.proofs.rithennaw_turns.Met as TurnsMet
+use Rattle.rithennaw.proofs.rithennaw_post as Post
+use Rattle.rithennaw.proofs.rithennaw_post.Symbol as PostCode
+use Rattle.rithennaw.proofs.rithennaw_post.Met as PostMet
 use Rattle.rithennaw.proofs.rithennaw_view as View
 use Rattle.rithennaw.proofs.rithennaw_view.Symbol as ViewCode
 use Rattle.rithennaw.proofs.rithennaw_view.Met as ViewMet
@@ -46,6 +51,14 @@ busyOf a = a .1 .1 .1 .1 .0
 abbrev soleLengthOf : {A B C D : Type 0} → A × (B × (C × D)) → C
 soleLengthOf a = a .1 .1 .0
 
+-- of a post
+
+abbrev postLengthOf : {A B C D E F G : Type 0} → A × (B × (C × (D × (E × (F × G))))) → F
+postLengthOf a = a .1 .1 .1 .1 .1 .0
+
+abbrev deliveredOf : {A B C D E F G H : Type 0} → A × (B × (C × (D × (E × (F × (G × H)))))) → G
+deliveredOf a = a .1 .1 .1 .1 .1 .1 .0
+
 module _ {M : Type 1} where
   pub rithennaw-check-keeps : Keeps M Check.ended CheckCode.routine (λ κs a r e. (r ≡ imageNumber (now (imageOf a))) × Bytes (now (imageOf a)))
   rithennaw-check-keeps = CheckMet.met
@@ -63,6 +76,12 @@ module _ {M : Type 1} where
       (λ κs a r e. Told (turnsCall (countOf a) (now (imageOf a))) (now (outputOf a)) r (now (lengthOf e)) (now (outputOf e))
       × (now (busyOf e) ≡ callAnswer (turnsCall (countOf a) (now (imageOf a))) (now (outputOf a)) .busy))
   rithennaw-turns-keeps = TurnsMet.met
+
+  pub rithennaw-post-keeps : Keeps M Post.ended PostCode.routine
+      (λ κs a r e. Told (postCall (slotNumberOf a) (labelOf a) (valueOf a) (now (imageOf a))) (now (postOutputOf a)) r (now (postLengthOf e)) (now (postOutputOf e))
+      × (now (deliveredOf e) ≡ cond (postDelivered (slotNumberOf a) (labelOf a) (valueOf a) (now (imageOf a)) (now (postOutputOf a))) 1 0)
+      × Fits (askPost (slotNumberOf a) (labelOf a) (valueOf a)))
+  rithennaw-post-keeps = PostMet.met
 
   pub rithennaw-view-keeps : Keeps M View.ended ViewCode.routine
       (λ κs a r e. Told (viewCall (observerOf a) (now (imageOf a))) (now (outputOf a)) r (now (lengthOf e)) (now (outputOf e)))
@@ -88,3 +107,9 @@ module _ (c : Call) (out : List ℕ) {number length : ℕ} {after : List ℕ} (t
   -- of a call that runs no turn
   pub told-promise-0 : c .busy ≡ 0 → CallPromise c out (record { number = number; length = length; busy = 0 }) after
   told-promise-0 none = told-promise (sym (busy-0 c out none))
+
+-- a request that was made of an image is a call of a list as the secrecy rule takes it; a post's busy count is 0
+pub told-kept : (q : Request) (image out : List ℕ) {number length busy : ℕ} {after : List ℕ} → Fits q
+    → Told (requestCall q image) out number length after → busy ≡ callAnswer (requestCall q image) out .busy
+    → KeptPromise (record { request = q; out = out; told = record { number = number; length = length; busy = busy }; after = after }) image
+told-kept q image out fits told counted = (fits, told-promise (requestCall q image) out told counted)

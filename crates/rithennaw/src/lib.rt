@@ -1,11 +1,14 @@
 // The C interface, which include/rithennaw.h declares: each function hands its arguments to a call of the monitor or the
 // sheet's, and what the call tells to the caller. A `&[u8]` is a pointer and then a length. Each that tells a number promises as
-// well that what it was lent as the image is bytes: with number 0 that makes an accepted image.
+// well that what it was lent as the image is bytes: with number 0 that makes an accepted image. A post promises too that its value
+// fits into 32 bits, which the secrecy rule asks of it.
 ghost use mathlib.Core.Path.{_≡_};
+ghost use mathlib.Core.Bool.{cond};
 ghost use Rattle.wire.specs.Lists.{Bytes};
 ghost use Rattle.image.specs.Refusal.{imageNumber};
 ghost use Rattle.image.specs.Part.{recordExtent};
-ghost use Rattle.monitor.specs.Calls.{callAnswer, rewriteCall, turnsCall, viewCall};
+ghost use Rattle.monitor.specs.Calls.{callAnswer, rewriteCall, turnsCall, postCall, postDelivered, viewCall};
+ghost use Rattle.monitor.specs.CallList.{askPost, Fits};
 ghost use Rattle.sheet.specs.Sheet.{sheetCall};
 ghost use Rattle.rithennaw.specs.Told.{Told};
 
@@ -54,6 +57,28 @@ pub extern "C" fn rithennaw_turns(
     *length = turned.length;
     *busy = turned.busy;
     turned.number
+}
+
+// Posts the host's message to a slot and writes the image after it: 1 in `delivered` where it was delivered, and 0 where it was
+// dropped.
+#[no_mangle]
+pub extern "C" fn rithennaw_post(
+    image: &[u8],
+    slot: u32,
+    label: u32,
+    value: u32,
+    out: &mut [u8],
+    length: &mut usize,
+    delivered: &mut u8,
+) -> u8
+    ensures { λ r. ⌜ Told (postCall slot label value (now (image .entry))) (now (out .entry)) r (now (length .exit)) (now (out .exit))
+        × (now (delivered .exit) ≡ cond (postDelivered slot label value (now (image .entry)) (now (out .entry))) 1 0)
+        × Fits (askPost slot label value) ⌝ }
+{
+    let posted = monitor::post(image, slot, label, value, out);
+    *length = posted.answer.length;
+    *delivered = posted.delivered as u8;
+    posted.answer.number
 }
 
 // Writes the view for an observer.
