@@ -58,10 +58,14 @@ extern "C" {
 /* An output of RITHENNAW_SHEET_MAX bytes is long enough for every observer sheet. */
 #define RITHENNAW_SHEET_MAX 318
 
-/* The most turns in one call, the highest observer label, and the highest slot. */
+/* The most turns in one call, the highest label, of an observer or a message, and the highest slot. */
 #define RITHENNAW_TURNS_MAX 1000000
 #define RITHENNAW_OBSERVER_MAX 15
+#define RITHENNAW_LABEL_MAX 15
 #define RITHENNAW_SLOT_MAX 15
+
+/* The sender of a message that was posted: the host, who stands in no slot. A task that takes the message gets this number. */
+#define RITHENNAW_HOST 16
 
 /* Stack that is enough for one call, in bytes. */
 #define RITHENNAW_STACK 32768
@@ -88,14 +92,18 @@ enum rithennaw_number {
     RITHENNAW_REFUSED_RECORD_LENGTH = 8,
     /* A task's kind, label or place is out of range, or slot + spare is above 15. */
     RITHENNAW_REFUSED_TASK_FIELD = 9,
-    /* A message's label or sender is above 15, or five or more are of one label. */
+    /* A message's label is above 15 or its sender above 16, or five or more are of one label. */
     RITHENNAW_REFUSED_MAIL = 10,
     /* There are bytes after slot 15. */
     RITHENNAW_REFUSED_TAIL = 11,
     /* A used slot lies in another task's spare. */
     RITHENNAW_REFUSED_ESTATE = 12,
     /* The output is shorter than the answer. */
-    RITHENNAW_REFUSED_OUTPUT = 13
+    RITHENNAW_REFUSED_OUTPUT = 13,
+    /* The slot posted to is above 15. */
+    RITHENNAW_REFUSED_POST_SLOT = 14,
+    /* The label of the message posted is above 15. */
+    RITHENNAW_REFUSED_POST_LABEL = 15
 };
 
 /* The sentence for a number, in English: that of the enum above, or one which says that the number is none of it. */
@@ -112,10 +120,12 @@ static inline const char *rithennaw_refusal_text(uint8_t number)
     case RITHENNAW_REFUSED_TURN_SLOT: return "The turn slot is above 15.";
     case RITHENNAW_REFUSED_RECORD_LENGTH: return "A record's length is neither 0 nor 37 + 6 * k, k at most 64.";
     case RITHENNAW_REFUSED_TASK_FIELD: return "A task's kind, label or place is out of range, or slot + spare is above 15.";
-    case RITHENNAW_REFUSED_MAIL: return "A message's label or sender is above 15, or five or more are of one label.";
+    case RITHENNAW_REFUSED_MAIL: return "A message's label is above 15 or its sender above 16, or five or more are of one label.";
     case RITHENNAW_REFUSED_TAIL: return "There are bytes after slot 15.";
     case RITHENNAW_REFUSED_ESTATE: return "A used slot lies in another task's spare.";
     case RITHENNAW_REFUSED_OUTPUT: return "The output is shorter than the answer.";
+    case RITHENNAW_REFUSED_POST_SLOT: return "The slot posted to is above 15.";
+    case RITHENNAW_REFUSED_POST_LABEL: return "The label of the message posted is above 15.";
     default: return "No call of this version returns this number.";
     }
 }
@@ -150,6 +160,20 @@ uint8_t rithennaw_rewrite(const uint8_t *image, size_t image_len, uint8_t *out, 
  */
 uint8_t rithennaw_turns(const uint8_t *image, size_t image_len, uint64_t count, uint8_t *out, size_t out_len,
                         size_t *length, uint64_t *busy);
+
+/*
+ * Posts a message of the host, a label and a value, to a slot, and writes the image after it; no turn is run. The message
+ * joins the end of the mailbox, with sender RITHENNAW_HOST, where the slot has a live task with fewer than four messages of
+ * that label: *delivered is then 1. In all other cases it is dropped: *delivered is 0, the call is accepted all the same, and
+ * the image is written as it was. A task receives the message once its own label is one that the message's flows to.
+ * Slot, label and value are 32 bits wide; a slot or label above 15 is refused before the image is read. A refusal sets
+ * *delivered to 0.
+ * What this call tells and writes depends on all tasks, hidden ones too: *delivered, the image, *length, a 13 and the time
+ * it takes are for the host alone. An observer sees posts of the labels that flow to its own, where it sees their tasks.
+ * Returns 0, 14, 15, 3 to 12, or 13 where the image after the post has more than out_len bytes.
+ */
+uint8_t rithennaw_post(const uint8_t *image, size_t image_len, uint32_t slot, uint32_t label, uint32_t value,
+                       uint8_t *out, size_t out_len, size_t *length, uint8_t *delivered);
 
 /*
  * Writes the view for an observer, a label 0 to 15: the image in which a task whose label doesn't flow to the observer's

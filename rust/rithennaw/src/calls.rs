@@ -2,7 +2,7 @@
 //! caller's buffer.
 
 use crate::ffi::{self, Told};
-use crate::{Observer, Refusal, Slot, IMAGE_MAX, SHEET_MAX};
+use crate::{MessageLabel, Observer, Refusal, Slot, IMAGE_MAX, SHEET_MAX};
 use std::ops::Range;
 
 /// What [`turns`] gives. Both are for the host alone: they depend on all tasks, whoever may see them.
@@ -21,6 +21,24 @@ pub struct TurnedInto {
     pub length: usize,
     /// The number of turns that met a live task.
     pub busy: u64,
+}
+
+/// What [`post`] gives. Both are for the host alone: they depend on all tasks, whoever may see them.
+#[derive(Debug, Clone, PartialEq, Eq)]
+pub struct Posted {
+    /// The image after the post.
+    pub image: Vec<u8>,
+    /// Whether the message joined the mailbox; else it was dropped.
+    pub delivered: bool,
+}
+
+/// What [`post_into`] tells. Both are for the host alone: they depend on all tasks, whoever may see them.
+#[derive(Debug, Clone, Copy, PartialEq, Eq)]
+pub struct PostedInto {
+    /// The length of the image after the post, which stands at the front of the buffer.
+    pub length: usize,
+    /// Whether the message joined the mailbox; else it was dropped.
+    pub delivered: bool,
 }
 
 /// Whether the image is accepted, by itself. No other call then refuses it but for its own arguments.
@@ -81,6 +99,35 @@ pub fn turns_into(image: &[u8], count: u64, out: &mut [u8]) -> Result<TurnedInto
     outcome(ffi::turns(image, count, out))
 }
 
+/// Posts a message of the host to a slot, and gives the image after it; no turn is run. The message joins the end of the
+/// mailbox, with sender [`HOST`](crate::HOST), where the slot has a live task with fewer than four messages of that label; in
+/// all other cases it is dropped, and the image is as it was.
+///
+/// # Errors
+/// Refusals 3 to 12, 14 and 15.
+pub fn post(
+    image: &[u8], slot: impl Into<Slot>, label: impl Into<MessageLabel>, value: u32,
+) -> Result<Posted, Refusal> {
+    let mut delivered = false;
+    let image = allocated(IMAGE_MAX, |out| {
+        let told = post_into(image, slot, label, value, out)?;
+        delivered = told.delivered;
+        Ok(told.length)
+    })?;
+    Ok(Posted { image, delivered })
+}
+
+/// [`post`] into a buffer; the bytes behind the image after the post stay as they were.
+///
+/// # Errors
+/// Refusals 3 to 15; the buffer is as it was.
+pub fn post_into(
+    image: &[u8], slot: impl Into<Slot>, label: impl Into<MessageLabel>, value: u32, out: &mut [u8],
+) -> Result<PostedInto, Refusal> {
+    let told = ffi::post(image, slot.into().number(), label.into().number(), value, out);
+    accepted(told.number).map(|()| PostedInto { length: told.length, delivered: told.delivered })
+}
+
 /// What an observer is shown: the image in which a task whose label doesn't flow to the observer's is written as
 /// unused, and messages whose labels don't are left out of the rest. A view is an accepted image itself.
 ///
@@ -134,7 +181,7 @@ fn accepted(number: u8) -> Result<(), Refusal> {
     if number == 0 {
         return Ok(());
     }
-    // The archive's numbers are proved to be 0 to 13. Another one is no refusal of any input, and must not pass for
+    // The archive's numbers are proved to be 0 to 15. Another one is no refusal of any input, and must not pass for
     // one.
     Err(Refusal::try_from(number).unwrap_or_else(|_| unreachable!("librithennaw.a told {number}")))
 }

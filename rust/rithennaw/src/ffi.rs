@@ -14,6 +14,10 @@ mod archive {
             image: *const u8, image_len: usize, count: u64, out: *mut u8, out_len: usize, length: *mut usize,
             busy: *mut u64,
         ) -> u8;
+        pub fn rithennaw_post(
+            image: *const u8, image_len: usize, slot: u32, label: u32, value: u32, out: *mut u8, out_len: usize,
+            length: *mut usize, delivered: *mut u8,
+        ) -> u8;
         pub fn rithennaw_view(
             image: *const u8, image_len: usize, observer: u32, out: *mut u8, out_len: usize, length: *mut usize,
         ) -> u8;
@@ -72,6 +76,32 @@ pub fn turns(image: &[u8], count: u64, out: &mut [u8]) -> Told {
         )
     };
     Told { number, length, busy }
+}
+
+/// What a post tells.
+pub struct ToldOfPost {
+    pub number: u8,
+    pub length: usize,
+    pub delivered: bool,
+}
+
+pub fn post(image: &[u8], slot: u32, label: u32, value: u32, out: &mut [u8]) -> ToldOfPost {
+    let (mut length, mut delivered) = (0, 0);
+    // SAFETY: as in `rewrite`; `length` and `delivered` are two variables of this function.
+    let number = unsafe {
+        archive::rithennaw_post(
+            image.as_ptr(),
+            image.len(),
+            slot,
+            label,
+            value,
+            out.as_mut_ptr(),
+            out.len(),
+            &mut length,
+            &mut delivered,
+        )
+    };
+    ToldOfPost { number, length, delivered: delivered == 1 }
 }
 
 pub fn view(image: &[u8], observer: u32, out: &mut [u8]) -> Told {

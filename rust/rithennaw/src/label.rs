@@ -85,3 +85,27 @@ impl From<u32> for Observer {
         Observer(number)
     }
 }
+
+/// The label that a post gives its message. Any [`Label`] is one. So is any number, since the library judges it: one above
+/// 15 is refused with [`Refusal::PostLabel`](crate::Refusal::PostLabel).
+#[derive(Debug, Clone, Copy, PartialEq, Eq, Hash)]
+pub struct MessageLabel(u32);
+
+impl MessageLabel {
+    /// The number asked with.
+    pub const fn number(self) -> u32 {
+        self.0
+    }
+}
+
+impl From<Label> for MessageLabel {
+    fn from(label: Label) -> MessageLabel {
+        MessageLabel(label.0.into())
+    }
+}
+
+impl From<u32> for MessageLabel {
+    fn from(number: u32) -> MessageLabel {
+        MessageLabel(number)
+    }
+}

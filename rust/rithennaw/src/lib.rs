@@ -64,10 +64,10 @@ mod refusal;
 mod slot;
 
 pub use calls::{
-    check, record, record_range, rewrite, rewrite_into, sheet, sheet_into, turns, turns_into, view, view_into, Turned,
-    TurnedInto,
+    check, post, post_into, record, record_range, rewrite, rewrite_into, sheet, sheet_into, turns, turns_into, view,
+    view_into, Posted, PostedInto, Turned, TurnedInto,
 };
-pub use label::{Label, Observer};
+pub use label::{Label, MessageLabel, Observer};
 pub use range::OutOfRange;
 pub use refusal::Refusal;
 pub use slot::Slot;
@@ -83,3 +83,6 @@ pub const SHEET_MAX: usize = 318;
 
 /// The most turns in one call.
 pub const TURNS_MAX: u64 = 1_000_000;
+
+/// The sender of a message that was posted: the host, who stands in no slot.
+pub const HOST: u8 = 16;

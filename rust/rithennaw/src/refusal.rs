@@ -1,4 +1,4 @@
-//! The thirteen refusals: the scope document's words and numbers, and the sentences of include/rithennaw.h.
+//! The refusals: the scope document's words and numbers, and the sentences of include/rithennaw.h.
 
 use crate::OutOfRange;
 use std::{error, fmt};
@@ -16,7 +16,7 @@ macro_rules! refusals {
         }
 
         impl Refusal {
-            /// Every refusal, in the order of the numbers 1 to 13.
+            /// Every refusal, in the order of the numbers 1 to 15.
             pub const ALL: &'static [Refusal] = &[$(Refusal::$name),*];
 
             /// The scope document's word for it, such as `record length`.
@@ -43,14 +43,16 @@ refusals! {
     TurnSlot = 7, "turn slot", "The turn slot is above 15.";
     RecordLength = 8, "record length", "A record's length is neither 0 nor 37 + 6 * k, k at most 64.";
     TaskField = 9, "task field", "A task's kind, label or place is out of range, or slot + spare is above 15.";
-    Mail = 10, "mail", "A message's label or sender is above 15, or five or more are of one label.";
+    Mail = 10, "mail", "A message's label is above 15 or its sender above 16, or five or more are of one label.";
     Tail = 11, "tail", "There are bytes after slot 15.";
     Estate = 12, "estate", "A used slot lies in another task's spare.";
     Output = 13, "output", "The output is shorter than the answer.";
+    PostSlot = 14, "post slot", "The slot posted to is above 15.";
+    PostLabel = 15, "post label", "The label of the message posted is above 15.";
 }
 
 impl Refusal {
-    /// The scope document's number, 1 to 13.
+    /// The scope document's number, 1 to 15.
     pub const fn number(self) -> u8 {
         self as u8
     }
@@ -61,7 +63,7 @@ impl TryFrom<u8> for Refusal {
 
     fn try_from(number: u8) -> Result<Refusal, OutOfRange> {
         let refusal = Refusal::ALL.iter().copied().find(|refusal| refusal.number() == number);
-        refusal.ok_or(OutOfRange { number, first: 1, last: 13 })
+        refusal.ok_or(OutOfRange { number, first: 1, last: 15 })
     }
 }
 
