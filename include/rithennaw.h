@@ -2,17 +2,19 @@
  * rithennaw.h: the C interface of the monitor. ISO C99; link librithennaw.a, which `make lib` builds.
  *
  * Each call takes an image, the bytes of all tasks, whatever they are: it refuses what it cannot take, so the caller
- * checks nothing beforehand. The layout of an image and the meaning of its tasks are the scope document's (01).
+ * checks nothing beforehand. The layout of an image and the meaning of its tasks are the scope document's (01), with its
+ * change request U1, the post.
  *
  * Numbers. All calls but `rithennaw_record` return 0 (RITHENNAW_ACCEPTED), or the number of the first rule that is broken,
- * in the order: 1 or 2, then the image from front to back, then 11, 12, 13. A refused call writes no byte of the output,
- * and sets *length, and *busy where there is one, to 0. An accepted one writes *length bytes at the front of the output and
- * leaves the bytes behind them as they were.
+ * in the order: 1, 2, or 14 and then 15, by the call's own arguments; then the image from front to back; then 11, 12, 13.
+ * A refused call writes no byte of the output, and sets *length, *busy and *delivered to 0, where it has them. An accepted
+ * one writes *length bytes at the front of the output and leaves the bytes behind them as they were.
  *
  * Pointers. All must be valid for the call: `image` for reading image_len bytes that have been set, `out` for writing
- * out_len bytes, `start`, `length` and `busy` for writing one number at its alignment. None may be null, also where the
- * length beside it is 0; nothing is read or written through it then. What `out`, `start`, `length` and `busy` point to
- * beforehand does not matter. The image, the output and the numbers pointed to must not overlap, one with another.
+ * out_len bytes, `start`, `length` and `busy` for writing one number at its alignment, `delivered` for writing one byte
+ * at any address. None may be null, also where the length beside it is 0; nothing is read or written through it then. What
+ * all but `image` point to beforehand does not matter. The image, the output and the numbers pointed to must not overlap,
+ * one with another.
  * Where RITHENNAW_DEBUG is defined ahead of this header, each call first asserts, by assert.h, that no pointer is null, that
  * the numbers are aligned and that nothing overlaps; where NDEBUG is defined too, it asserts nothing. So RITHENNAW_DEBUG
  * belongs into builds without NDEBUG, and on the compiler's command line: behind an earlier include of this header it comes
@@ -58,13 +60,13 @@ extern "C" {
 /* An output of RITHENNAW_SHEET_MAX bytes is long enough for every observer sheet. */
 #define RITHENNAW_SHEET_MAX 318
 
-/* The most turns in one call, the highest label, of an observer or a message, and the highest slot. */
+/* The most turns in one call, the highest label, of an observer and of a message, and the highest slot. */
 #define RITHENNAW_TURNS_MAX 1000000
 #define RITHENNAW_OBSERVER_MAX 15
 #define RITHENNAW_LABEL_MAX 15
 #define RITHENNAW_SLOT_MAX 15
 
-/* The sender of a message that was posted: the host, who stands in no slot. A task that takes the message gets this number. */
+/* The sender of a posted message: the host, who stands in no slot. A task that receives the message is told this number. */
 #define RITHENNAW_HOST 16
 
 /* Stack that is enough for one call, in bytes. */
@@ -132,7 +134,7 @@ static inline const char *rithennaw_refusal_text(uint8_t number)
 
 /*
  * The number of the image, by itself: 0 where it is accepted. No other call then refuses it but for its own arguments, with
- * 1, 2 or 13. There is no output.
+ * 1, 2, 13, 14 or 15. There is no output.
  * Returns 0, or 3 to 12.
  */
 uint8_t rithennaw_check(const uint8_t *image, size_t image_len);
@@ -162,15 +164,15 @@ uint8_t rithennaw_turns(const uint8_t *image, size_t image_len, uint64_t count, 
                         size_t *length, uint64_t *busy);
 
 /*
- * Posts a message of the host, a label and a value, to a slot, and writes the image after it; no turn is run. The message
- * joins the end of the mailbox, with sender RITHENNAW_HOST, where the slot has a live task with fewer than four messages of
- * that label: *delivered is then 1. In all other cases it is dropped: *delivered is 0, the call is accepted all the same, and
- * the image is written as it was. A task receives the message once its own label is one that the message's flows to.
- * Slot, label and value are 32 bits wide; a slot or label above 15 is refused before the image is read. A refusal sets
- * *delivered to 0.
+ * Posts a message of that label and value to a slot, and writes the image after it; no turn is run. Where the slot has a
+ * live task with fewer than four messages of that label, the message joins the end of its mailbox, with RITHENNAW_HOST as
+ * its sender, and *delivered is 1. Else it is dropped: the image is written as it was and *delivered is 0, but the call is
+ * accepted. The task receives the message as it does any other, once the message's label flows to its own.
  * What this call tells and writes depends on all tasks, hidden ones too: *delivered, the image, *length, a 13 and the time
- * it takes are for the host alone. An observer sees posts of the labels that flow to its own, where it sees their tasks.
- * Returns 0, 14, 15, 3 to 12, or 13 where the image after the post has more than out_len bytes.
+ * it takes are for the host alone. A post is no secret from an observer to whom its label flows: whether and when it is
+ * made, and its slot and value, must not be chosen by what is hidden from that observer, such as *delivered.
+ * Returns 0, 14 where the slot is above 15, 15 where the label is, 3 to 12, or 13 where the image after the post has more
+ * than out_len bytes.
  */
 uint8_t rithennaw_post(const uint8_t *image, size_t image_len, uint32_t slot, uint32_t label, uint32_t value,
                        uint8_t *out, size_t out_len, size_t *length, uint8_t *delivered);
@@ -243,6 +245,15 @@ static inline int rithennaw_debug_apart(const void *one, size_t one_len, const v
         assert(rithennaw_debug_apart(out, out_len, length, sizeof *length)); \
     } while (0)
 
+/* What such a call tells beside the length, through one more pointer. */
+#define RITHENNAW_DEBUG_TELLS(number) \
+    do { \
+        assert(number != NULL); \
+        assert(rithennaw_debug_apart(image, image_len, number, sizeof *number)); \
+        assert(rithennaw_debug_apart(out, out_len, number, sizeof *number)); \
+        assert(rithennaw_debug_apart(length, sizeof *length, number, sizeof *number)); \
+    } while (0)
+
 static inline uint8_t rithennaw_debug_check(const uint8_t *image, size_t image_len)
 {
     assert(image != NULL);
@@ -274,12 +285,18 @@ static inline uint8_t rithennaw_debug_turns(const uint8_t *image, size_t image_l
                                             size_t out_len, size_t *length, uint64_t *busy)
 {
     RITHENNAW_DEBUG_LENT();
-    assert(busy != NULL);
+    RITHENNAW_DEBUG_TELLS(busy);
     assert(rithennaw_debug_aligned(busy, offsetof(struct rithennaw_debug_count, number)));
-    assert(rithennaw_debug_apart(image, image_len, busy, sizeof *busy));
-    assert(rithennaw_debug_apart(out, out_len, busy, sizeof *busy));
-    assert(rithennaw_debug_apart(length, sizeof *length, busy, sizeof *busy));
     return rithennaw_turns(image, image_len, count, out, out_len, length, busy);
+}
+
+static inline uint8_t rithennaw_debug_post(const uint8_t *image, size_t image_len, uint32_t slot, uint32_t label,
+                                           uint32_t value, uint8_t *out, size_t out_len, size_t *length,
+                                           uint8_t *delivered)
+{
+    RITHENNAW_DEBUG_LENT();
+    RITHENNAW_DEBUG_TELLS(delivered);
+    return rithennaw_post(image, image_len, slot, label, value, out, out_len, length, delivered);
 }
 
 static inline uint8_t rithennaw_debug_view(const uint8_t *image, size_t image_len, uint32_t observer, uint8_t *out,
@@ -300,6 +317,7 @@ static inline uint8_t rithennaw_debug_sheet(const uint8_t *image, size_t image_l
 #define rithennaw_record rithennaw_debug_record
 #define rithennaw_rewrite rithennaw_debug_rewrite
 #define rithennaw_turns rithennaw_debug_turns
+#define rithennaw_post rithennaw_debug_post
 #define rithennaw_view rithennaw_debug_view
 #define rithennaw_sheet rithennaw_debug_sheet
 
