@@ -1,7 +1,7 @@
 /*
- * The archive linked into a C program: the scope document's image B, its examples P2, P3 and P5 and the sheet of P2 through
- * the header, every byte compared; a record's part; each refusal of an image, and the refusals 1, 2, 3 and 13 of calls that
- * write, which leave the output as it was; the sentences of the numbers and the version.
+ * The archive linked into a C program: the scope document's image B, its examples P2, P3 and P5, posts to B and the sheet of
+ * P2 through the header, every byte compared; a record's part; each refusal of an image, and the refusals 1, 2, 3, 13, 14
+ * and 15 of calls that write, which leave the output as it was; the sentences of the numbers and the version.
  */
 #include <stdint.h>
 #include <stdio.h>
@@ -43,11 +43,18 @@ static void put(struct image *b, unsigned byte)
     b->bytes[b->length++] = (uint8_t)byte;
 }
 
-static void put_number(struct image *b, unsigned width, uint32_t x)
+/* A number in `width` bytes, big-endian. */
+static void set_number(uint8_t *at, unsigned width, uint32_t x)
 {
     while (width-- > 0) {
-        put(b, (x >> (8 * width)) & 0xff);
+        *at++ = (uint8_t)(x >> (8 * width));
     }
+}
+
+static void put_number(struct image *b, unsigned width, uint32_t x)
+{
+    set_number(b->bytes + b->length, width, x);
+    b->length += width;
 }
 
 /* Where the fields of B stand: version, program length and program; turn slot; slots 0 to 15. */
@@ -57,11 +64,10 @@ enum {
     SLOT_0_AT = TURN_SLOT_AT + 1,
     SLOT_5_AT = SLOT_0_AT + 2 + 37 + 4 * 2,
     B_LENGTH = SLOT_5_AT + 2 + 37 + 10 * 2,
-    /* in a slot, behind its 2-byte length: kind, label, spare, place, registers, messages */
+    /* in a slot, behind its 2-byte length: kind, label, spare, place, registers */
     SPARE_AT = 2 + 2,
     PLACE_AT = 2 + 3,
-    REGISTERS_AT = 2 + 5,
-    MAIL_AT = 2 + 37
+    REGISTERS_AT = 2 + 5
 };
 
 static const uint8_t program[16] = {
@@ -103,15 +109,21 @@ static void make_b(struct image *b)
     }
 }
 
-/* One message more, behind the last byte of slot 5, which has none: its label, sender 0, value 700 (hexadecimal 02BC). */
-static void put_mail_700(struct image *b, uint8_t label)
+static void set_register(struct image *b, size_t slot_at, unsigned r, uint32_t value)
 {
-    static const uint8_t message[6] = {0, 0, 0x00, 0x00, 0x02, 0xbc};
-    uint8_t *at = b->bytes + SLOT_5_AT + MAIL_AT;
-    memmove(at + 6, at, b->length - (SLOT_5_AT + MAIL_AT));
-    memcpy(at, message, 6);
-    at[0] = label;
-    b->bytes[SLOT_5_AT + 1] = 37 + 6;
+    set_number(b->bytes + slot_at + REGISTERS_AT + 4 * r, 4, value);
+}
+
+/* One message more, behind the others of the slot that stands there. Its record has less than 256 bytes before and after. */
+static void put_mail(struct image *b, size_t slot_at, unsigned label, unsigned sender, uint32_t value)
+{
+    uint8_t *length_at = b->bytes + slot_at + 1;
+    uint8_t *at = length_at + 1 + *length_at;
+    memmove(at + 6, at, (size_t)(b->bytes + b->length - at));
+    at[0] = (uint8_t)label;
+    at[1] = (uint8_t)sender;
+    set_number(at + 2, 4, value);
+    *length_at = (uint8_t)(*length_at + 6);
     b->length += 6;
 }
 
@@ -122,12 +134,14 @@ enum { PATTERN = 0xa5, OUT_LENGTH = RITHENNAW_IMAGE_MAX };
 static uint8_t out[OUT_LENGTH];
 static size_t length;
 static uint64_t busy;
+static uint8_t delivered;
 
 static void fill(void)
 {
     memset(out, PATTERN, sizeof out);
     length = 77;
     busy = 77;
+    delivered = 77;
 }
 
 /* The output begins with `should` and holds the pattern behind it. */
@@ -170,6 +184,19 @@ static void turns(const char *call, const struct image *image, uint64_t count, s
     expect_number(busy, should_busy, call, "the busy count");
 }
 
+/* The value of every post, with four bytes that differ. */
+enum { FIGURE = 0x01020304 };
+
+static void posts(const char *call, const struct image *image, uint32_t slot, uint32_t label, size_t room,
+                  unsigned number, const struct image *should, unsigned should_delivered)
+{
+    unsigned is;
+    fill();
+    is = rithennaw_post(image->bytes, image->length, slot, label, FIGURE, out, room, &length, &delivered);
+    expect_answer(call, is, number, should);
+    expect_number(delivered, should_delivered, call, "the delivery");
+}
+
 static void views(const char *call, const struct image *image, uint32_t observer, size_t room, unsigned number,
                   const struct image *should)
 {
@@ -203,9 +230,9 @@ static void record(const char *call, const struct image *image, uint32_t slot, s
     expect_number(length, should_length, call, "the length");
 }
 
-/* ---- the images of the examples; `cut` is B without its last byte, `mail_16` has a message of a label above 15 */
+/* ---- the images of the examples; `cut` is B without its last byte, `label_16` and `sender_17` have such a message */
 
-static struct image b, p2, p3, ended, p5, p5_after, p5_for_0, cut, mail_16, empty;
+static struct image b, p2, p3, ended, p5, p5_after, p5_for_0, cut, label_16, sender_17, empty;
 
 static void make_images(void)
 {
@@ -213,22 +240,23 @@ static void make_images(void)
     expect_number(b.length, B_LENGTH, "B", "the length");
     cut = b;
     cut.length--;
-    mail_16 = b;
-    put_mail_700(&mail_16, 16);
+    label_16 = b;
+    put_mail(&label_16, SLOT_5_AT, 16, 0, 700);
+    sender_17 = b;
+    put_mail(&sender_17, SLOT_5_AT, 0, 17, 700);
 
     /* P2: after 1 turn slot 0 is at place 1, and slot 5 has the message. */
     p2 = b;
     p2.bytes[TURN_SLOT_AT] = 1;
     p2.bytes[SLOT_0_AT + PLACE_AT + 1] = 1;
-    put_mail_700(&p2, 0);
+    put_mail(&p2, SLOT_5_AT, 0, 0, 700);
 
     /* P3: after 6 turns register 3 of slot 5 is 700, register 4 is 0, it is at place 3 and has no mail. */
     p3 = b;
     p3.bytes[TURN_SLOT_AT] = 6;
     p3.bytes[SLOT_0_AT + PLACE_AT + 1] = 1;
     p3.bytes[SLOT_5_AT + PLACE_AT + 1] = 3;
-    p3.bytes[SLOT_5_AT + REGISTERS_AT + 4 * 3 + 2] = 0x02;
-    p3.bytes[SLOT_5_AT + REGISTERS_AT + 4 * 3 + 3] = 0xbc;
+    set_register(&p3, SLOT_5_AT, 3, 700);
 
     /* After 1,000,000 turns, 62,500 for each slot, both tasks have ended; 4 turns were busy. */
     ended = p3;
@@ -243,7 +271,40 @@ static void make_images(void)
     p5_for_0.bytes[TURN_SLOT_AT] = 6;
     p5_for_0.bytes[SLOT_0_AT + PLACE_AT + 1] = 1;
     p5_after = p5_for_0;
-    put_mail_700(&p5_after, 2);
+    put_mail(&p5_after, SLOT_5_AT, 2, 0, 700);
+}
+
+/* ---- the images of posts to B, of which slots 0 and 5 are live */
+
+static struct image posted, posted_to_0, posted_2, posted_again, taken, full, full_posted;
+
+static void make_posted(void)
+{
+    unsigned i;
+
+    /* To slot 5 with label 0, to slot 0, with label 2, which doesn't flow to the task's, and behind the message of P2. */
+    posted = b;
+    put_mail(&posted, SLOT_5_AT, 0, RITHENNAW_HOST, FIGURE);
+    posted_to_0 = b;
+    put_mail(&posted_to_0, SLOT_0_AT, 0, RITHENNAW_HOST, FIGURE);
+    posted_2 = b;
+    put_mail(&posted_2, SLOT_5_AT, 2, RITHENNAW_HOST, FIGURE);
+    posted_again = p2;
+    put_mail(&posted_again, SLOT_5_AT, 0, RITHENNAW_HOST, FIGURE);
+
+    /* After 6 turns slot 5 has taken it ahead of slot 0's message: the figure in register 3, the host in register 4. */
+    taken = p3;
+    set_register(&taken, SLOT_5_AT, 3, FIGURE);
+    set_register(&taken, SLOT_5_AT, 4, RITHENNAW_HOST);
+    put_mail(&taken, SLOT_5_AT, 0, 0, 700);
+
+    /* Four messages of label 2 wait; one of label 3 has room. */
+    full = b;
+    for (i = 0; i < 4; i++) {
+        put_mail(&full, SLOT_5_AT, 2, i, 700 + i);
+    }
+    full_posted = full;
+    put_mail(&full_posted, SLOT_5_AT, 3, RITHENNAW_HOST, FIGURE);
 }
 
 /* ---- each function: accepted calls, then the refusals in the order of their numbers */
@@ -270,7 +331,9 @@ static void try_check(void)
     checks_changed("check of turn slot 16", TURN_SLOT_AT, 16, RITHENNAW_REFUSED_TURN_SLOT);
     checks_changed("check of a record of 38 bytes", SLOT_0_AT + 1, 38, RITHENNAW_REFUSED_RECORD_LENGTH);
     checks_changed("check of kind 6", SLOT_0_AT + 2, 6, RITHENNAW_REFUSED_TASK_FIELD);
-    checks_as("check of a message of label 16", &mail_16, RITHENNAW_REFUSED_MAIL);
+    checks_as("check of a message of label 16", &label_16, RITHENNAW_REFUSED_MAIL);
+    checks_as("check of a message of sender 16", &posted, RITHENNAW_ACCEPTED);
+    checks_as("check of a message of sender 17", &sender_17, RITHENNAW_REFUSED_MAIL);
     checks_as("check of B and a byte", &longer, RITHENNAW_REFUSED_TAIL);
     checks_changed("check of slot 0 with spare 5", SLOT_0_AT + SPARE_AT, 5, RITHENNAW_REFUSED_ESTATE);
 }
@@ -306,6 +369,7 @@ static void try_turns(void)
     turns("B after 1,000,000 turns", &b, RITHENNAW_TURNS_MAX, OUT_LENGTH, RITHENNAW_ACCEPTED, &ended, 4);
     turns("P2 after 5 turns more", &p2, 5, OUT_LENGTH, RITHENNAW_ACCEPTED, &p3, 1);
     turns("P5 after 6 turns", &p5, 6, OUT_LENGTH, RITHENNAW_ACCEPTED, &p5_after, 2);
+    turns("B with a post after 6 turns", &posted, 6, OUT_LENGTH, RITHENNAW_ACCEPTED, &taken, 2);
     turns("1,000,001 turns", &b, RITHENNAW_TURNS_MAX + 1, OUT_LENGTH, RITHENNAW_REFUSED_TURN_LIMIT, NULL, 0);
     turns("2^32 turns", &b, (uint64_t)1 << 32, OUT_LENGTH, RITHENNAW_REFUSED_TURN_LIMIT, NULL, 0);
     turns("1,000,001 turns of no bytes", &empty, RITHENNAW_TURNS_MAX + 1, 0, RITHENNAW_REFUSED_TURN_LIMIT, NULL, 0);
@@ -314,12 +378,50 @@ static void try_turns(void)
     turns("B after 1 turn into a byte too few", &b, 1, p2.length - 1, RITHENNAW_REFUSED_OUTPUT, NULL, 0);
 }
 
+/* A post to a task that has stopped, whatever its kind, is dropped. */
+static void posts_to_stopped(void)
+{
+    struct image stopped = b;
+    uint8_t kind;
+    for (kind = 2; kind <= 5; kind++) {
+        stopped.bytes[SLOT_5_AT + 2] = kind;
+        posts("post to a stopped task", &stopped, 5, 0, OUT_LENGTH, RITHENNAW_ACCEPTED, &stopped, 0);
+    }
+}
+
+static void try_post(void)
+{
+    posts("post", &b, 5, 0, OUT_LENGTH, RITHENNAW_ACCEPTED, &posted, 1);
+    posts("post into just enough", &b, 5, 0, posted.length, RITHENNAW_ACCEPTED, &posted, 1);
+    posts("post to slot 0", &b, 0, 0, OUT_LENGTH, RITHENNAW_ACCEPTED, &posted_to_0, 1);
+    posts("post behind a message", &p2, 5, 0, OUT_LENGTH, RITHENNAW_ACCEPTED, &posted_again, 1);
+    posts("post with a label that the task has not", &b, 5, 2, OUT_LENGTH, RITHENNAW_ACCEPTED, &posted_2, 1);
+    posts("post with label 3 behind four of label 2", &full, 5, 3, OUT_LENGTH, RITHENNAW_ACCEPTED, &full_posted, 1);
+    posts("post with label 2 behind four of it", &full, 5, 2, OUT_LENGTH, RITHENNAW_ACCEPTED, &full, 0);
+    posts("post to an unused slot", &b, 1, 0, OUT_LENGTH, RITHENNAW_ACCEPTED, &b, 0);
+    posts("post to an unused slot into just enough", &b, 1, 0, b.length, RITHENNAW_ACCEPTED, &b, 0);
+    posts_to_stopped();
+    posts("post to slot 16", &b, 16, 0, OUT_LENGTH, RITHENNAW_REFUSED_POST_SLOT, NULL, 0);
+    posts("post to slot 256 + 5", &b, 256 + 5, 0, OUT_LENGTH, RITHENNAW_REFUSED_POST_SLOT, NULL, 0);
+    posts("post to slot 16 with label 16", &b, 16, 16, OUT_LENGTH, RITHENNAW_REFUSED_POST_SLOT, NULL, 0);
+    posts("post to slot 16 of no bytes", &empty, 16, 0, 0, RITHENNAW_REFUSED_POST_SLOT, NULL, 0);
+    posts("post with label 16", &b, 5, 16, OUT_LENGTH, RITHENNAW_REFUSED_POST_LABEL, NULL, 0);
+    posts("post with label 256", &b, 5, 256, OUT_LENGTH, RITHENNAW_REFUSED_POST_LABEL, NULL, 0);
+    posts("post with label 16 to no bytes", &empty, 5, 16, 0, RITHENNAW_REFUSED_POST_LABEL, NULL, 0);
+    posts("post to B cut by a byte", &cut, 5, 0, OUT_LENGTH, RITHENNAW_REFUSED_SHORT, NULL, 0);
+    posts("post to no bytes", &empty, 5, 0, 0, RITHENNAW_REFUSED_SHORT, NULL, 0);
+    posts("post into a byte too few", &b, 5, 0, posted.length - 1, RITHENNAW_REFUSED_OUTPUT, NULL, 0);
+    posts("post to an unused slot into a byte too few", &b, 1, 0, b.length - 1, RITHENNAW_REFUSED_OUTPUT, NULL, 0);
+}
+
 static void try_view(void)
 {
     views("view of P5 for 0", &p5_after, 0, OUT_LENGTH, RITHENNAW_ACCEPTED, &p5_for_0);
     views("view of P5 for 0 into just enough", &p5_after, 0, p5_for_0.length, RITHENNAW_ACCEPTED, &p5_for_0);
     views("view of P5 for 2", &p5_after, 2, OUT_LENGTH, RITHENNAW_ACCEPTED, &p5_after);
     views("view of P5 for 15", &p5_after, 15, OUT_LENGTH, RITHENNAW_ACCEPTED, &p5_after);
+    views("view of a post of label 2 for 0", &posted_2, 0, OUT_LENGTH, RITHENNAW_ACCEPTED, &b);
+    views("view of a post of label 2 for 2", &posted_2, 2, OUT_LENGTH, RITHENNAW_ACCEPTED, &posted_2);
     views("view for 16", &b, 16, OUT_LENGTH, RITHENNAW_REFUSED_OBSERVER, NULL);
     views("view for 256", &b, 256, OUT_LENGTH, RITHENNAW_REFUSED_OBSERVER, NULL);
     views("view for 16 of no bytes", &empty, 16, 0, RITHENNAW_REFUSED_OBSERVER, NULL);
@@ -371,7 +473,7 @@ static int has_own_sentence(uint8_t number)
 static void try_texts(void)
 {
     uint8_t number;
-    for (number = RITHENNAW_ACCEPTED; number <= RITHENNAW_REFUSED_OUTPUT; number++) {
+    for (number = RITHENNAW_ACCEPTED; number <= RITHENNAW_REFUSED_POST_LABEL; number++) {
         expect(has_own_sentence(number), rithennaw_refusal_text(number));
     }
     /* far above the last number, so that a new one moves neither */
@@ -388,10 +490,12 @@ static void try_version(void)
 int main(void)
 {
     make_images();
+    make_posted();
     try_check();
     try_record();
     try_rewrite();
     try_turns();
+    try_post();
     try_view();
     try_sheet();
     try_texts();

@@ -30,7 +30,7 @@ static void expect(int holds, const char *call, const char *what)
 
 /* ---- what is lent: places in one part of memory and lengths, side by side with no byte between them */
 
-enum field { IMAGE, IMAGE_LEN, OUT, OUT_LEN, LENGTH, BUSY, START, FIELDS };
+enum field { IMAGE, IMAGE_LEN, OUT, OUT_LEN, LENGTH, BUSY, START, DELIVERED, FIELDS };
 
 struct lent {
     int field[FIELDS];
@@ -41,16 +41,20 @@ static union {
     uint64_t aligned;
 } memory;
 
-/* The shortest image, an output of as many bytes, and the numbers. FREE is a place behind them, NOWHERE the null pointer. */
+/*
+ * The shortest image, an output of as many bytes, and the numbers. FREE is a place behind them, aligned as they are, NOWHERE
+ * the null pointer.
+ */
 enum {
     SHORTEST = RITHENNAW_IMAGE_MIN,
     LENGTH_AT = 2 * SHORTEST,
     BUSY_AT = LENGTH_AT + sizeof(size_t),
     START_AT = BUSY_AT + sizeof(uint64_t),
-    FREE = START_AT + sizeof(size_t),
+    DELIVERED_AT = START_AT + sizeof(size_t),
+    FREE = DELIVERED_AT + sizeof(uint64_t),
     NOWHERE = -1
 };
-static const struct lent good = {{0, SHORTEST, SHORTEST, SHORTEST, LENGTH_AT, BUSY_AT, START_AT}};
+static const struct lent good = {{0, SHORTEST, SHORTEST, SHORTEST, LENGTH_AT, BUSY_AT, START_AT, DELIVERED_AT}};
 
 /* What is lent, with one field changed. */
 static struct lent with(struct lent lent, enum field field, int value)
@@ -98,6 +102,13 @@ static unsigned turns(const struct lent *lent)
                            (size_t)lent->field[OUT_LEN], (size_t *)place(lent, LENGTH), (uint64_t *)place(lent, BUSY));
 }
 
+static unsigned post(const struct lent *lent)
+{
+    return rithennaw_post((uint8_t *)place(lent, IMAGE), (size_t)lent->field[IMAGE_LEN], 0, 0, 0,
+                          (uint8_t *)place(lent, OUT), (size_t)lent->field[OUT_LEN], (size_t *)place(lent, LENGTH),
+                          (uint8_t *)place(lent, DELIVERED));
+}
+
 static unsigned view(const struct lent *lent)
 {
     return rithennaw_view((uint8_t *)place(lent, IMAGE), (size_t)lent->field[IMAGE_LEN], 15, (uint8_t *)place(lent, OUT),
@@ -117,9 +128,10 @@ struct call {
 };
 static const struct call calls[] = {
     {"rithennaw_debug_check", check}, {"rithennaw_debug_record", record}, {"rithennaw_debug_rewrite", rewrite},
-    {"rithennaw_debug_turns", turns}, {"rithennaw_debug_view", view}, {"rithennaw_debug_sheet", sheet}
+    {"rithennaw_debug_turns", turns}, {"rithennaw_debug_post", post}, {"rithennaw_debug_view", view},
+    {"rithennaw_debug_sheet", sheet}
 };
-enum { CHECK = 1, RECORD = 2, WRITING = 4 + 8 + 16 + 32, TURNS = 8, CALLS = 6 };
+enum { CHECK = 1, RECORD = 2, WRITING = 4 + 8 + 16 + 32 + 64, TURNS = 8, POST = 16, CALLS = 7 };
 
 /* ---- calls as the header asks for them */
 
@@ -140,6 +152,7 @@ static void try_good(void)
     size_t evaluated = 0;
     uint8_t (*by_pointer)(const uint8_t *, size_t) = rithennaw_check;
     passes("parts that touch", CHECK | RECORD | WRITING, good, RITHENNAW_ACCEPTED);
+    passes("a delivery told at an odd address", POST, with(good, DELIVERED, FREE + 1), RITHENNAW_ACCEPTED);
     passes("an output ahead of the image, which is all 0", WRITING, with(with(good, OUT, 0), IMAGE, SHORTEST),
            RITHENNAW_REFUSED_VERSION);
     passes("an empty output amid the image", WRITING, with(with(good, OUT, 8), OUT_LEN, 0), RITHENNAW_REFUSED_OUTPUT);
@@ -200,6 +213,7 @@ static void try_null(void)
     aborts("length != NULL", RECORD | WRITING, with(good, LENGTH, NOWHERE));
     aborts("start != NULL", RECORD, with(good, START, NOWHERE));
     aborts("busy != NULL", TURNS, with(good, BUSY, NOWHERE));
+    aborts("delivered != NULL", POST, with(good, DELIVERED, NOWHERE));
 }
 
 static void try_alignment(void)
@@ -220,6 +234,9 @@ static void try_overlap(void)
     const char *image_busy = "rithennaw_debug_apart(image, image_len, busy, sizeof *busy)";
     const char *out_busy = "rithennaw_debug_apart(out, out_len, busy, sizeof *busy)";
     const char *length_busy = "rithennaw_debug_apart(length, sizeof *length, busy, sizeof *busy)";
+    const char *image_delivered = "rithennaw_debug_apart(image, image_len, delivered, sizeof *delivered)";
+    const char *out_delivered = "rithennaw_debug_apart(out, out_len, delivered, sizeof *delivered)";
+    const char *length_delivered = "rithennaw_debug_apart(length, sizeof *length, delivered, sizeof *delivered)";
     aborts(image_out, WRITING, with(good, OUT, 0));
     aborts(image_out, WRITING, with(good, OUT, SHORTEST - 1));
     aborts(image_out, WRITING, with(good, IMAGE, 2 * SHORTEST - 1));
@@ -232,6 +249,9 @@ static void try_overlap(void)
     aborts(image_busy, TURNS, with(good, BUSY, 0));
     aborts(out_busy, TURNS, with(good, BUSY, SHORTEST));
     aborts(length_busy, TURNS, with(good, BUSY, LENGTH_AT));
+    aborts(image_delivered, POST, with(good, DELIVERED, SHORTEST - 1));
+    aborts(out_delivered, POST, with(good, DELIVERED, SHORTEST));
+    aborts(length_delivered, POST, with(good, DELIVERED, BUSY_AT - 1));
 }
 
 int main(void)

@@ -15,12 +15,13 @@
 enum { STACK = 1 << 20, PATTERN = 0xa5, MARGIN = 512 };
 
 /* The image that the calls take: sixteen live tasks that take, poll and send to slot 1, each with 64 messages, four of each
- * label. */
+ * label; but slot 15 has room for one of label 15, which is posted. */
 static uint8_t image[RITHENNAW_IMAGE_MAX];
 static size_t image_len;
 static uint8_t out[RITHENNAW_IMAGE_MAX];
 static size_t start, length;
 static uint64_t busy;
+static uint8_t delivered;
 
 static void put(unsigned byte)
 {
@@ -31,7 +32,7 @@ static void make_image(void)
 {
     /* take 3 4, send 1 0 2, poll 3 4 0, go 0 */
     static const uint8_t program[16] = {0x09, 3, 4, 0, 0x08, 1, 0, 2, 0x0a, 3, 4, 0, 0x05, 0, 0, 0};
-    unsigned slot, i;
+    unsigned slot, mail, length_of_record, i;
     put(1);
     put(0);
     put(sizeof program);
@@ -40,12 +41,14 @@ static void make_image(void)
     }
     put(0);
     for (slot = 0; slot < 16; slot++) {
-        put((37 + 6 * 64) >> 8);
-        put((37 + 6 * 64) & 0xff);
+        mail = slot < 15 ? 64 : 63;
+        length_of_record = 37 + 6 * mail;
+        put(length_of_record >> 8);
+        put(length_of_record & 0xff);
         for (i = 0; i < 37; i++) {
             put(i == 0 || i == 5 + 4 * 1 + 3); /* kind 1, register 1 holds 1, all else 0 */
         }
-        for (i = 0; i < 64; i++) {
+        for (i = 0; i < mail; i++) {
             put(i % 16);
             put(slot);
             put(0);
@@ -77,6 +80,12 @@ static unsigned rewrite(void)
 static unsigned turns(void)
 {
     return rithennaw_turns(image, image_len, 1000, out, sizeof out, &length, &busy);
+}
+
+static unsigned post(void)
+{
+    unsigned refused = rithennaw_post(image, image_len, 15, 15, 700, out, sizeof out, &length, &delivered);
+    return refused != 0 ? refused : delivered != 1;
 }
 
 static unsigned view(void)
@@ -126,7 +135,7 @@ int main(void)
     static const struct {
         const char *name;
         unsigned (*call)(void);
-    } calls[] = {{"turns", turns}, {"view", view}, {"sheet", sheet},
+    } calls[] = {{"turns", turns}, {"post", post}, {"view", view}, {"sheet", sheet},
                  {"rewrite", rewrite}, {"record", record}, {"check", check}};
     void *memory;
     size_t i;
