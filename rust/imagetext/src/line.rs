@@ -42,8 +42,7 @@ impl Line<'_> {
 
     /// A decimal number without leading zeros that fits into its field.
     pub fn number<T: FromStr>(&self, word: &str) -> Result<T, Fault> {
-        let is_decimal = word.bytes().all(|byte| byte.is_ascii_digit()) && (word == "0" || !word.starts_with('0'));
-        if !is_decimal {
+        if !is_decimal(word) {
             return Err(self.fault(format!("`{word}` is not a decimal number without leading zeros")));
         }
         word.parse().map_err(|_| self.too_large::<T>(word))
@@ -62,4 +61,9 @@ impl Line<'_> {
     pub fn too_large<T>(&self, word: &str) -> Fault {
         self.fault(format!("`{word}` is too large for a field of {} bits", 8 * size_of::<T>()))
     }
+}
+
+/// Whether a word is a decimal number without leading zeros.
+pub fn is_decimal(word: &str) -> bool {
+    word.bytes().all(|byte| byte.is_ascii_digit()) && (word == "0" || !word.starts_with('0'))
 }

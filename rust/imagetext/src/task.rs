@@ -1,8 +1,8 @@
 //! A task and its fields.
 
-use crate::line::{Fault, Line};
+use crate::line::{is_decimal, Fault, Line};
 use crate::program::Names;
-use layout::{Message, Task};
+use layout::{Message, Task, HOST};
 use std::collections::HashSet;
 
 /// The task whose fields stand behind `slot SLOT` and on the lines below it.
@@ -36,7 +36,7 @@ fn read_field(task: &mut Task, line: &Line, words: &[&str], names: &Names) -> Re
             return Ok(3);
         }
         ["message", label, sender, value, ..] => {
-            let (label, sender, value) = (line.number(label)?, line.number(sender)?, line.number(value)?);
+            let (label, sender, value) = (line.number(label)?, read_sender(line, sender)?, line.number(value)?);
             task.mail.push(Message { label, sender, value });
             return Ok(4);
         }
@@ -49,4 +49,13 @@ fn read_field(task: &mut Task, line: &Line, words: &[&str], names: &Names) -> Re
         }
     }
     Ok(2)
+}
+
+/// A sender by its number, or the host by its word.
+fn read_sender(line: &Line, word: &str) -> Result<u8, Fault> {
+    match word {
+        "host" => Ok(HOST),
+        _ if is_decimal(word) => line.number(word),
+        _ => Err(line.fault(format!("`{word}` is neither `host` nor a decimal number without leading zeros"))),
+    }
 }

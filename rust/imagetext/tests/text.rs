@@ -82,6 +82,12 @@ fn fields_share_lines() {
 }
 
 #[test]
+fn the_host_is_sender_16() {
+    let bytes = image("slot 15 message 3 host 5 message 3 16 5").unwrap();
+    assert_eq!(bytes[bytes.len() - 12..], [3, 16, 0, 0, 0, 5, 3, 16, 0, 0, 0, 5]);
+}
+
+#[test]
 fn names_are_places() {
     let text = "program\nfirst:\nalso-first:\ngo last_2 0 0\nlast_2:\npoll 1 2 first\nbehind:\nslot 0\nplace behind\n";
     let bytes = image(text).unwrap();
@@ -99,7 +105,7 @@ fn what_is_not_given_is_0() {
 /// These break 01's image rules, which the monitor judges.
 #[test]
 fn image_rules_are_left_to_the_monitor() {
-    for text in ["program\nraise 16 0 0\n", "turn 16\n", "slot 3\nspare 13\n", "slot 0\nkind 9\nmessage 255 16 0\n"] {
+    for text in ["program\nraise 16 0 0\n", "turn 16\n", "slot 3\nspare 13\n", "slot 0\nkind 9\nmessage 255 17 0\n"] {
         assert!(image(text).is_ok(), "{text}");
     }
 }
@@ -162,6 +168,9 @@ fn faults_of_tasks() {
         ("slot 0 label 1 kind\n", &(no_field("1") + " at `kind`")),
         ("slot 0\nmessage 0 0\n", &(no_field("2") + " at `message 0 0`")),
         ("slot 0\nend 0 0 0\n", &(no_field("2") + " at `end 0 0 0`")),
+        ("slot 0\nmessage 0 Host 0\n", "2: `Host` is neither `host` nor a decimal number without leading zeros"),
+        ("slot 0\nmessage 0 256 0\n", "2: `256` is too large for a field of 8 bits"),
+        ("slot 0\nmessage host 0 0\n", "2: `host` is not a decimal number without leading zeros"),
         ("slot 0\nplace 65536\n", "2: `65536` is too large for a field of 16 bits"),
         ("slot 0\nplace start\nprogram\nstart:\n", "2: no place has the name `start`"),
         ("slot 0\nregister 8 0\n", "2: there is no register 8: the last is 7"),

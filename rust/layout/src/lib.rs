@@ -8,6 +8,9 @@ pub mod instructions;
 /// The number of slots.
 pub const SLOTS: usize = 16;
 
+/// The sender of a message that the host posted; slots are 0 to 15.
+pub const HOST: u8 = 16;
+
 /// Where the registers of a record begin, behind kind, label, spare and place.
 pub const REGISTERS_AT: usize = 5;
 
