@@ -74,7 +74,7 @@ pub fn rewrite(image: &[u8]) -> Result<Vec<u8>, Refusal> {
 /// # Errors
 /// Refusals 3 to 13; the buffer is as it was.
 pub fn rewrite_into(image: &[u8], out: &mut [u8]) -> Result<usize, Refusal> {
-    outcome(ffi::rewrite(image, out)).map(|told| told.length)
+    written(ffi::rewrite(image, out))
 }
 
 /// Runs `count` turns, at most [`TURNS_MAX`](crate::TURNS_MAX), and gives the image after them.
@@ -82,13 +82,9 @@ pub fn rewrite_into(image: &[u8], out: &mut [u8]) -> Result<usize, Refusal> {
 /// # Errors
 /// Refusals 2 to 12; no turn was carried out.
 pub fn turns(image: &[u8], count: u64) -> Result<Turned, Refusal> {
-    let mut busy = 0;
-    let image = allocated(IMAGE_MAX, |out| {
-        let told = turns_into(image, count, out)?;
-        busy = told.busy;
-        Ok(told.length)
-    })?;
-    Ok(Turned { image, busy })
+    let mut out = vec![0; IMAGE_MAX];
+    let TurnedInto { length, busy } = turns_into(image, count, &mut out)?;
+    Ok(Turned { image: front(out, length), busy })
 }
 
 /// [`turns`] into a buffer; the bytes behind the image after the turns stay as they were.
@@ -96,25 +92,26 @@ pub fn turns(image: &[u8], count: u64) -> Result<Turned, Refusal> {
 /// # Errors
 /// Refusals 2 to 13; no turn was carried out, and the buffer is as it was.
 pub fn turns_into(image: &[u8], count: u64, out: &mut [u8]) -> Result<TurnedInto, Refusal> {
-    outcome(ffi::turns(image, count, out))
+    let (told, busy) = ffi::turns(image, count, out);
+    Ok(TurnedInto { length: written(told)?, busy })
 }
 
-/// Posts a message of the host to a slot, and gives the image after it; no turn is run. The message joins the end of the
-/// mailbox, with sender [`HOST`](crate::HOST), where the slot has a live task with fewer than four messages of that label; in
-/// all other cases it is dropped, and the image is as it was.
+/// Posts a message of that label and value to a slot, and gives the image after it; no turn is run. Where the slot has a live
+/// task with fewer than four messages of that label, the message joins the end of its mailbox, with [`HOST`](crate::HOST) as
+/// its sender. Else it is dropped, and the image is as it was. The task receives the message as it does any other, once the
+/// message's label flows to its own.
+///
+/// A post is no secret from an observer to whom its label flows: whether and when it is made, and its slot and value, must
+/// not be chosen by what is hidden from that observer, such as whether another post was delivered.
 ///
 /// # Errors
 /// Refusals 3 to 12, 14 and 15.
 pub fn post(
     image: &[u8], slot: impl Into<Slot>, label: impl Into<MessageLabel>, value: u32,
 ) -> Result<Posted, Refusal> {
-    let mut delivered = false;
-    let image = allocated(IMAGE_MAX, |out| {
-        let told = post_into(image, slot, label, value, out)?;
-        delivered = told.delivered;
-        Ok(told.length)
-    })?;
-    Ok(Posted { image, delivered })
+    let mut out = vec![0; IMAGE_MAX];
+    let PostedInto { length, delivered } = post_into(image, slot, label, value, &mut out)?;
+    Ok(Posted { image: front(out, length), delivered })
 }
 
 /// [`post`] into a buffer; the bytes behind the image after the post stay as they were.
@@ -124,8 +121,8 @@ pub fn post(
 pub fn post_into(
     image: &[u8], slot: impl Into<Slot>, label: impl Into<MessageLabel>, value: u32, out: &mut [u8],
 ) -> Result<PostedInto, Refusal> {
-    let told = ffi::post(image, slot.into().number(), label.into().number(), value, out);
-    accepted(told.number).map(|()| PostedInto { length: told.length, delivered: told.delivered })
+    let (told, delivered) = ffi::post(image, slot.into().number(), label.into().number(), value, out);
+    Ok(PostedInto { length: written(told)?, delivered })
 }
 
 /// What an observer is shown: the image in which a task whose label doesn't flow to the observer's is written as
@@ -142,7 +139,7 @@ pub fn view(image: &[u8], observer: impl Into<Observer>) -> Result<Vec<u8>, Refu
 /// # Errors
 /// Refusals 1 and 3 to 13; the buffer is as it was.
 pub fn view_into(image: &[u8], observer: impl Into<Observer>, out: &mut [u8]) -> Result<usize, Refusal> {
-    outcome(ffi::view(image, observer.into().number(), out)).map(|told| told.length)
+    written(ffi::view(image, observer.into().number(), out))
 }
 
 /// The observer sheet: a heading and a line for each used slot of the observer's view, in ASCII. A line has the slot,
@@ -159,21 +156,26 @@ pub fn sheet(image: &[u8], observer: impl Into<Observer>) -> Result<Vec<u8>, Ref
 /// # Errors
 /// Refusals 1 and 3 to 13; the buffer is as it was.
 pub fn sheet_into(image: &[u8], observer: impl Into<Observer>, out: &mut [u8]) -> Result<usize, Refusal> {
-    outcome(ffi::sheet(image, observer.into().number(), out)).map(|told| told.length)
+    written(ffi::sheet(image, observer.into().number(), out))
 }
 
 /// What a call writes into a buffer of `room` bytes, which is enough for every answer of that call.
 fn allocated(room: usize, call: impl FnOnce(&mut [u8]) -> Result<usize, Refusal>) -> Result<Vec<u8>, Refusal> {
     let mut out = vec![0; room];
     let length = call(&mut out)?;
-    out.truncate(length);
-    out.shrink_to_fit();
-    Ok(out)
+    Ok(front(out, length))
 }
 
-/// What was told, or the refusal that its number names.
-fn outcome(told: Told) -> Result<TurnedInto, Refusal> {
-    accepted(told.number).map(|()| TurnedInto { length: told.length, busy: told.busy })
+/// What stands at the front of a buffer, alone.
+fn front(mut out: Vec<u8>, length: usize) -> Vec<u8> {
+    out.truncate(length);
+    out.shrink_to_fit();
+    out
+}
+
+/// The length that was told, or the refusal that the number names.
+fn written(told: Told) -> Result<usize, Refusal> {
+    accepted(told.number).map(|()| told.length)
 }
 
 /// The refusal that a number names; none for 0.
@@ -181,7 +183,7 @@ fn accepted(number: u8) -> Result<(), Refusal> {
     if number == 0 {
         return Ok(());
     }
-    // The archive's numbers are proved to be 0 to 15. Another one is no refusal of any input, and must not pass for
-    // one.
+    // The archive's numbers are proved to be 0 and those of the refusals. Another one is no refusal of any input, and
+    // must not pass for one.
     Err(Refusal::try_from(number).unwrap_or_else(|_| unreachable!("librithennaw.a told {number}")))
 }

@@ -28,15 +28,14 @@ mod archive {
 }
 
 // What the header asks of pointers holds of every call below. A slice's pointer is not null, also where the slice is
-// empty; it is valid for the slice's length, and the bytes are set. `start`, `length` and `busy` are variables of the
-// function itself. A `&` and a `&mut` that live at the same time do not overlap, and neither overlaps those
+// empty; it is valid for the slice's length, and the bytes are set. `start`, `length`, `busy` and `delivered` are variables
+// of the function itself. A `&` and a `&mut` that live at the same time do not overlap, and neither overlaps those
 // variables. The archive keeps no pointer when it returns. It has no globals, so any thread may call.
 
-/// What a call that writes tells.
+/// What every call that writes tells.
 pub struct Told {
     pub number: u8,
     pub length: usize,
-    pub busy: u64,
 }
 
 /// The image's number.
@@ -58,10 +57,11 @@ pub fn rewrite(image: &[u8], out: &mut [u8]) -> Told {
     // SAFETY: `image` is lent for reading and `out` for writing, each with its own length, and `&mut` keeps them apart.
     let number =
         unsafe { archive::rithennaw_rewrite(image.as_ptr(), image.len(), out.as_mut_ptr(), out.len(), &mut length) };
-    Told { number, length, busy: 0 }
+    Told { number, length }
 }
 
-pub fn turns(image: &[u8], count: u64, out: &mut [u8]) -> Told {
+/// With the busy count.
+pub fn turns(image: &[u8], count: u64, out: &mut [u8]) -> (Told, u64) {
     let (mut length, mut busy) = (0, 0);
     // SAFETY: as in `rewrite`; `length` and `busy` are two variables of this function.
     let number = unsafe {
@@ -75,17 +75,11 @@ pub fn turns(image: &[u8], count: u64, out: &mut [u8]) -> Told {
             &mut busy,
         )
     };
-    Told { number, length, busy }
+    (Told { number, length }, busy)
 }
 
-/// What a post tells.
-pub struct ToldOfPost {
-    pub number: u8,
-    pub length: usize,
-    pub delivered: bool,
-}
-
-pub fn post(image: &[u8], slot: u32, label: u32, value: u32, out: &mut [u8]) -> ToldOfPost {
+/// With whether the message was delivered.
+pub fn post(image: &[u8], slot: u32, label: u32, value: u32, out: &mut [u8]) -> (Told, bool) {
     let (mut length, mut delivered) = (0, 0);
     // SAFETY: as in `rewrite`; `length` and `delivered` are two variables of this function.
     let number = unsafe {
@@ -101,7 +95,7 @@ pub fn post(image: &[u8], slot: u32, label: u32, value: u32, out: &mut [u8]) -> 
             &mut delivered,
         )
     };
-    ToldOfPost { number, length, delivered: delivered == 1 }
+    (Told { number, length }, delivered == 1)
 }
 
 pub fn view(image: &[u8], observer: u32, out: &mut [u8]) -> Told {
@@ -110,7 +104,7 @@ pub fn view(image: &[u8], observer: u32, out: &mut [u8]) -> Told {
     let number = unsafe {
         archive::rithennaw_view(image.as_ptr(), image.len(), observer, out.as_mut_ptr(), out.len(), &mut length)
     };
-    Told { number, length, busy: 0 }
+    Told { number, length }
 }
 
 pub fn sheet(image: &[u8], observer: u32, out: &mut [u8]) -> Told {
@@ -119,5 +113,5 @@ pub fn sheet(image: &[u8], observer: u32, out: &mut [u8]) -> Told {
     let number = unsafe {
         archive::rithennaw_sheet(image.as_ptr(), image.len(), observer, out.as_mut_ptr(), out.len(), &mut length)
     };
-    Told { number, length, busy: 0 }
+    Told { number, length }
 }

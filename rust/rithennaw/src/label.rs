@@ -1,4 +1,4 @@
-//! Labels, and the observers that look with one.
+//! Labels.
 
 use crate::OutOfRange;
 use std::fmt;
@@ -59,53 +59,5 @@ impl From<Label> for u8 {
 impl fmt::Display for Label {
     fn fmt(&self, f: &mut fmt::Formatter<'_>) -> fmt::Result {
         self.0.fmt(f)
-    }
-}
-
-/// The label for which a view or a sheet is asked. Any [`Label`] is one. So is any number, since the library judges
-/// it: one above 15 is refused with [`Refusal::Observer`](crate::Refusal::Observer).
-#[derive(Debug, Clone, Copy, PartialEq, Eq, Hash)]
-pub struct Observer(u32);
-
-impl Observer {
-    /// The number asked with.
-    pub const fn number(self) -> u32 {
-        self.0
-    }
-}
-
-impl From<Label> for Observer {
-    fn from(label: Label) -> Observer {
-        Observer(label.0.into())
-    }
-}
-
-impl From<u32> for Observer {
-    fn from(number: u32) -> Observer {
-        Observer(number)
-    }
-}
-
-/// The label that a post gives its message. Any [`Label`] is one. So is any number, since the library judges it: one above
-/// 15 is refused with [`Refusal::PostLabel`](crate::Refusal::PostLabel).
-#[derive(Debug, Clone, Copy, PartialEq, Eq, Hash)]
-pub struct MessageLabel(u32);
-
-impl MessageLabel {
-    /// The number asked with.
-    pub const fn number(self) -> u32 {
-        self.0
-    }
-}
-
-impl From<Label> for MessageLabel {
-    fn from(label: Label) -> MessageLabel {
-        MessageLabel(label.0.into())
-    }
-}
-
-impl From<u32> for MessageLabel {
-    fn from(number: u32) -> MessageLabel {
-        MessageLabel(number)
     }
 }

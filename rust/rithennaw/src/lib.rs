@@ -1,9 +1,10 @@
 //! Safe calls to Rithennaw, a monitor that planning software embeds.
 //!
 //! Several owners' tasks run side by side. Each task has a [`Label`], the set of owners whose figures it may have
-//! touched. The monitor takes an image of all tasks as bytes, runs [`turns`], and gives each observer a [`view`] or a
-//! [`sheet`]. What an image means, what a turn does and what a view shows is proved; this crate hands slices to the
-//! archive `librithennaw.a` and adds nothing. The crate itself is tested and not proved.
+//! touched. The monitor takes an image of all tasks as bytes, runs [`turns`], puts the host's own messages into mailboxes
+//! ([`post`]), and gives each observer a [`view`] or a [`sheet`]. What an image means, what a turn and a post do and what a
+//! view shows is proved; this crate hands slices to the archive `librithennaw.a` and adds nothing. The crate itself is tested
+//! and not proved.
 //!
 //! Every call takes any bytes and any numbers, so the caller checks nothing beforehand: what cannot be taken is
 //! refused with a [`Refusal`], and a refused call writes nothing. No call panics, whatever it is given. Nothing is
@@ -19,10 +20,10 @@
 //! # Example
 //!
 //! Two tasks: slot 0 has touched owner 0's figures (label 1) and sends 700 to slot 1, which is public (label 0).
-//! Owner 0 is shown the task and its message. Owner 1 is shown neither.
+//! Owner 0 is shown the task and its message. Owner 1 is shown neither. Then the host posts 21 to slot 1, for owner 0 too.
 //!
 //! ```
-//! use rithennaw::{record, sheet, turns, view, Label, Refusal};
+//! use rithennaw::{post, record, sheet, turns, view, Label, Refusal, HOST};
 //!
 //! // A record without mail: kind 1 (live), label, spare 0, place, registers 0 to 7.
 //! fn task(label: u8, place: u8, registers: [u32; 8]) -> Vec<u8> {
@@ -50,27 +51,32 @@
 //! assert_eq!(sheet(&after.image, owner_0)?, b"slot kind label spare pc mail\n0 1 1 0 1 0\n1 1 0 0 1 1\n");
 //! assert_eq!(sheet(&after.image, owner_1)?, b"slot kind label spare pc mail\n1 1 0 0 1 0\n");
 //! assert_eq!(sheet(&after.image, 16), Err(Refusal::Observer));
+//!
+//! let posted = post(&after.image, 1, owner_0, 21)?;
+//! assert!(posted.delivered);
+//! assert_eq!(record(&posted.image, 1)[43..], [1, HOST, 0, 0, 0, 21]); // behind the other message
+//! assert_eq!(view(&posted.image, owner_1)?, shown);
 //! # Ok::<(), Refusal>(())
 //! ```
 
 #![deny(missing_docs, unsafe_code, unsafe_op_in_unsafe_fn)]
 
+mod argument;
 mod calls;
 #[allow(unsafe_code)]
 mod ffi;
 mod label;
 mod range;
 mod refusal;
-mod slot;
 
+pub use argument::{MessageLabel, Observer, Slot};
 pub use calls::{
     check, post, post_into, record, record_range, rewrite, rewrite_into, sheet, sheet_into, turns, turns_into, view,
     view_into, Posted, PostedInto, Turned, TurnedInto,
 };
-pub use label::{Label, MessageLabel, Observer};
+pub use label::Label;
 pub use range::OutOfRange;
 pub use refusal::Refusal;
-pub use slot::Slot;
 
 /// The length of the shortest image.
 pub const IMAGE_MIN: usize = 40;
@@ -84,5 +90,5 @@ pub const SHEET_MAX: usize = 318;
 /// The most turns in one call.
 pub const TURNS_MAX: u64 = 1_000_000;
 
-/// The sender of a message that was posted: the host, who stands in no slot.
+/// The sender of a posted message: the host, who stands in no slot. A task that receives the message is told this number.
 pub const HOST: u8 = 16;

@@ -1,4 +1,5 @@
-//! The refusals: the scope document's words and numbers, and the sentences of include/rithennaw.h.
+//! The refusals: the numbers and words of the scope document and its change requests, and the sentences of
+//! include/rithennaw.h.
 
 use crate::OutOfRange;
 use std::{error, fmt};
@@ -6,8 +7,8 @@ use std::{error, fmt};
 /// Makes `Refusal` of a table: number, word and sentence of each.
 macro_rules! refusals {
     ($($name:ident = $number:literal, $word:literal, $text:literal;)*) => {
-        /// Why a call was refused: the first rule that is broken. The words and the numbers are the scope document's. A
-        /// later edition may have more of them.
+        /// Why a call was refused: the first rule that is broken. The numbers are those of the scope document and its change
+        /// requests, and so are the words up to 13; the others have none there. A later edition may have more of them.
         #[non_exhaustive]
         #[derive(Debug, Clone, Copy, PartialEq, Eq, Hash)]
         #[repr(u8)]
@@ -16,10 +17,10 @@ macro_rules! refusals {
         }
 
         impl Refusal {
-            /// Every refusal, in the order of the numbers 1 to 15.
+            /// Every refusal, in the order of the numbers, 1 first.
             pub const ALL: &'static [Refusal] = &[$(Refusal::$name),*];
 
-            /// The scope document's word for it, such as `record length`.
+            /// The word for it, such as `record length`.
             pub const fn word(self) -> &'static str {
                 match self { $(Refusal::$name => $word,)* }
             }
@@ -52,7 +53,7 @@ refusals! {
 }
 
 impl Refusal {
-    /// The scope document's number, 1 to 15.
+    /// Its number, from 1 on.
     pub const fn number(self) -> u8 {
         self as u8
     }
@@ -63,7 +64,7 @@ impl TryFrom<u8> for Refusal {
 
     fn try_from(number: u8) -> Result<Refusal, OutOfRange> {
         let refusal = Refusal::ALL.iter().copied().find(|refusal| refusal.number() == number);
-        refusal.ok_or(OutOfRange { number, first: 1, last: 15 })
+        refusal.ok_or(OutOfRange { number, first: 1, last: Refusal::ALL.len() as u8 })
     }
 }
 

@@ -2,8 +2,8 @@
 //! and extreme numbers.
 
 use rithennaw::{
-    check, record, record_range, rewrite, rewrite_into, sheet, sheet_into, turns, turns_into, view, view_into, Label,
-    Refusal, Turned, TurnedInto, IMAGE_MAX, IMAGE_MIN, TURNS_MAX,
+    check, post, post_into, record, record_range, rewrite, rewrite_into, sheet, sheet_into, turns, turns_into, view,
+    view_into, Label, Posted, PostedInto, Refusal, Turned, TurnedInto, HOST, IMAGE_MAX, IMAGE_MIN, TURNS_MAX,
 };
 
 /// The image of a text whose form is right.
@@ -54,6 +54,12 @@ fn both_forms_agree_on_an_accepted_image() {
     agree(&rewrite(&image).unwrap(), |out| rewrite_into(&image, out), |length| length);
     agree(&sent.image, |out| turns_into(&image, 1, out), |told: TurnedInto| told.length);
     assert_eq!(turns_into(&image, 1, &mut [0; IMAGE_MAX]).map(|told| told.busy), Ok(1));
+    for (slot, delivered) in [(1, true), (2, false)] {
+        let posted = post(&image, slot, 1, 700).unwrap();
+        agree(&posted.image, |out| post_into(&image, slot, 1, 700, out), |told: PostedInto| told.length);
+        assert_eq!(posted.delivered, delivered);
+        assert_eq!(post_into(&image, slot, 1, 700, &mut [0; IMAGE_MAX]).map(|told| told.delivered), Ok(delivered));
+    }
     for observer in Label::all() {
         agree(&view(&sent.image, observer).unwrap(), |out| view_into(&sent.image, observer, out), |length| length);
         agree(&sheet(&sent.image, observer).unwrap(), |out| sheet_into(&sent.image, observer, out), |length| length);
@@ -74,6 +80,41 @@ fn a_record_is_a_part_of_the_image() {
     assert_eq!((record(cut, 1), record_range(cut, 1)), (&[][..], 0..0));
 }
 
+/// A task in slot 3 with label 1 that takes a message, and has these fields too.
+fn receiver(fields: &str) -> Vec<u8> {
+    image(&format!("program\n take 1 2 0\nslot 3 label 1 {fields}"))
+}
+
+#[test]
+fn a_post_joins_the_end_of_the_mailbox() {
+    let before = receiver("message 2 0 1");
+    for label in Label::all() {
+        let image = receiver(&format!("message 2 0 1 message {label} host {}", u32::MAX));
+        assert_eq!(post(&before, 3, label, u32::MAX), Ok(Posted { image, delivered: true }));
+    }
+}
+
+#[test]
+fn a_post_without_room_or_a_live_task_is_dropped() {
+    let dropped = |image: Vec<u8>, slot: u32| {
+        let told = post(&image, slot, 2, 700);
+        assert_eq!(told, Ok(Posted { image, delivered: false }));
+    };
+    dropped(receiver(&"message 2 0 1 ".repeat(4)), 3);
+    dropped(receiver(""), 4);
+    for kind in 2..=5 {
+        dropped(receiver(&format!("kind {kind}")), 3);
+    }
+}
+
+#[test]
+fn a_receiver_is_told_that_the_host_posted() {
+    let posted = post(&receiver(""), 3, 1, 700).unwrap();
+    let received = turns(&posted.image, 4).unwrap();
+    let should = receiver(&format!("place 1 register 1 700 register 2 {HOST}"));
+    assert_eq!(record(&received.image, 3), record(&should, 3));
+}
+
 #[test]
 fn the_shortest_image_is_taken_by_every_call() {
     let image = image("program\n end 0 0 0");
@@ -81,6 +122,7 @@ fn the_shortest_image_is_taken_by_every_call() {
     assert_eq!(check(&image), Ok(()));
     assert_eq!(rewrite(&image).as_ref(), Ok(&image));
     assert_eq!(turns(&image, 0), Ok(Turned { image: image.clone(), busy: 0 }));
+    assert_eq!(post(&image, 0, 0, 0), Ok(Posted { image: image.clone(), delivered: false }));
     assert_eq!(view(&image, 0).as_ref(), Ok(&image));
     assert_eq!(sheet(&image, 0).as_deref(), Ok(&b"slot kind label spare pc mail\n"[..]));
 }
@@ -91,6 +133,7 @@ fn refused(image: &[u8], refusal: Refusal) {
         let mut out = vec![0xa5; length];
         assert_eq!(rewrite_into(image, &mut out), Err(refusal));
         assert_eq!(turns_into(image, 1, &mut out), Err(refusal));
+        assert_eq!(post_into(image, 1, 0, 700, &mut out), Err(refusal));
         assert_eq!(view_into(image, 0, &mut out), Err(refusal));
         assert_eq!(sheet_into(image, 0, &mut out), Err(refusal));
         assert!(out.iter().all(|&byte| byte == 0xa5), "a refused call wrote");
@@ -98,6 +141,7 @@ fn refused(image: &[u8], refusal: Refusal) {
     assert_eq!(check(image), Err(refusal));
     assert_eq!(rewrite(image), Err(refusal));
     assert_eq!(turns(image, TURNS_MAX), Err(refusal));
+    assert_eq!(post(image, 15, Label::TOP, u32::MAX), Err(refusal));
     assert_eq!(view(image, Label::TOP), Err(refusal));
     assert_eq!(sheet(image, Label::TOP), Err(refusal));
     assert_eq!((record(image, 0), record_range(image, 0)), (&[][..], 0..0));
@@ -123,7 +167,7 @@ fn an_image_that_breaks_a_rule_is_refused_by_every_call() {
     refused(&changed(16, 1), Refusal::Estate);
     let sent = turns(&image, 1).unwrap().image;
     let sender_at = record_range(&sent, 1).end - 5;
-    refused(&[&sent[..sender_at], &[16], &sent[sender_at + 1..]].concat(), Refusal::Mail);
+    refused(&[&sent[..sender_at], &[HOST + 1], &sent[sender_at + 1..]].concat(), Refusal::Mail);
 }
 
 #[test]
@@ -139,6 +183,12 @@ fn extreme_numbers_are_refused_ahead_of_the_image() {
         for count in [TURNS_MAX + 1, u64::from(u32::MAX) + 1, u64::MAX] {
             assert_eq!(turns(image, count), Err(Refusal::TurnLimit));
             assert_eq!(turns_into(image, count, &mut []), Err(Refusal::TurnLimit));
+        }
+        for above in [16, 255, 256, u32::MAX] {
+            assert_eq!(post(image, above, above, 0), Err(Refusal::PostSlot));
+            assert_eq!(post_into(image, above, 0, 0, &mut []), Err(Refusal::PostSlot));
+            assert_eq!(post(image, 0, above, 0), Err(Refusal::PostLabel));
+            assert_eq!(post_into(image, 15, above, 0, &mut []), Err(Refusal::PostLabel));
         }
     }
     assert_eq!(turns(&accepted, TURNS_MAX).map(|turned| turned.busy), Ok(3));

@@ -1,7 +1,7 @@
 //! The constants, and the numbers, words and sentences of refusals, are those of include/rithennaw.h; the header's limits
 //! are those of the definitions.
 
-use rithennaw::{Label, Refusal, Slot, IMAGE_MAX, IMAGE_MIN, SHEET_MAX, TURNS_MAX};
+use rithennaw::{Label, Refusal, Slot, HOST, IMAGE_MAX, IMAGE_MIN, SHEET_MAX, TURNS_MAX};
 use std::fs;
 
 /// A file of the repository.
@@ -31,7 +31,9 @@ fn constants_are_the_headers() {
     assert_eq!(defined(&header, "SHEET_MAX"), Some(SHEET_MAX as u64));
     assert_eq!(defined(&header, "TURNS_MAX"), Some(TURNS_MAX));
     assert_eq!(defined(&header, "OBSERVER_MAX"), Some(u8::from(Label::TOP).into()));
+    assert_eq!(defined(&header, "LABEL_MAX"), Some(u8::from(Label::TOP).into()));
     assert_eq!(defined(&header, "SLOT_MAX"), Slot::all().last().map(|slot| slot.number().into()));
+    assert_eq!(defined(&header, "HOST"), Some(HOST.into()));
 }
 
 #[test]
@@ -44,13 +46,17 @@ fn the_headers_limits_are_the_definitions() {
         ("SHEET_MAX", "sheetRoom"),
         ("TURNS_MAX", "turnLimit"),
         ("OBSERVER_MAX", "highestLabel"),
+        ("LABEL_MAX", "highestLabel"),
         ("SLOT_MAX", "highestSlot"),
+        ("HOST", "host"),
     ];
     for (name, definition) in names {
         let limit = behind(&limits, &format!("{definition} = "));
         assert!(limit.is_some(), "{definition}");
         assert_eq!(defined(&header, name), limit, "{name}");
     }
+    // number 10's sentence says that no sender is above the host
+    assert!(limits.lines().any(|line| line == "highestSender = host"));
 }
 
 /// The numbers of the header's enum, in order: name, number, and the sentence in the comment ahead of it.

@@ -1,6 +1,6 @@
-//! Labels, observers, slots and refusals: ranges, the order of labels, and the scope document's words and numbers.
+//! Labels, the numbers that a call is asked with, and refusals: ranges, the order of labels, words and numbers.
 
-use rithennaw::{Label, Observer, Refusal, Slot};
+use rithennaw::{Label, MessageLabel, Observer, Refusal, Slot};
 use std::error::Error;
 
 fn label(number: u8) -> Label {
@@ -40,26 +40,28 @@ fn owners_flow_and_join_go_by_bits() {
 }
 
 #[test]
-fn an_observer_and_a_slot_are_any_number() {
+fn an_observer_a_message_label_and_a_slot_are_any_number() {
     assert_eq!(Observer::from(label(9)), Observer::from(9));
     assert_eq!(Observer::from(u32::MAX).number(), u32::MAX);
+    assert_eq!(MessageLabel::from(label(9)), MessageLabel::from(9));
+    assert_eq!(MessageLabel::from(u32::MAX).number(), u32::MAX);
     assert_eq!(Slot::from(u32::MAX).number(), u32::MAX);
     assert_eq!(Slot::all().map(Slot::number).collect::<Vec<_>>(), (0..16).collect::<Vec<_>>());
 }
 
 #[test]
-fn a_refusal_is_a_number_from_1_to_13() {
+fn a_refusal_is_a_number_from_1_to_15() {
     for number in 0..=u8::MAX {
         let refusal = Refusal::try_from(number);
-        assert_eq!(refusal.is_ok(), (1..=13).contains(&number), "{number}");
+        assert_eq!(refusal.is_ok(), (1..=15).contains(&number), "{number}");
         assert_eq!(refusal.map_or(number, Refusal::number), number);
     }
-    assert_eq!(Refusal::try_from(0).unwrap_err().to_string(), "0 is not from 1 to 13");
-    assert!(Refusal::ALL.iter().map(|refusal| refusal.number()).eq(1..=13));
+    assert_eq!(Refusal::try_from(0).unwrap_err().to_string(), "0 is not from 1 to 15");
+    assert!(Refusal::ALL.iter().map(|refusal| refusal.number()).eq(1..=15));
 }
 
 #[test]
-fn refusals_have_the_words_of_the_scope_document() {
+fn refusals_have_the_words_of_the_scope_document_and_two_more() {
     let words = [
         "observer",
         "turn limit",
@@ -74,6 +76,8 @@ fn refusals_have_the_words_of_the_scope_document() {
         "tail",
         "estate",
         "output",
+        "post slot",
+        "post label",
     ];
     assert!(Refusal::ALL.iter().map(|refusal| refusal.word()).eq(words));
     let error: Box<dyn Error> = Refusal::Tail.into();
