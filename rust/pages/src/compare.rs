@@ -2,14 +2,15 @@
 
 use imagetext::Fault;
 use layout::{REGISTERS_AT, TASK_LENGTH};
-use rithennaw::{record, sheet, turns, view, Refusal};
+use rithennaw::{post, record, sheet, turns, view, Refusal};
 
-use crate::example::{examples, Instruction, Register, Sheet};
+use crate::example::{examples, Example, Instruction, Post, Register, Sheet, Step, What};
 
 /// How much of a page was compared.
 #[derive(Debug, Default, PartialEq, Eq)]
 pub struct Compared {
     pub images: usize,
+    pub posts: usize,
     pub sheets: usize,
     pub registers: usize,
     pub instructions: usize,
@@ -18,33 +19,89 @@ pub struct Compared {
 /// Compares a whole page, or tells the first line that has not its form or says something else than the monitor.
 pub fn compare(page: &str) -> Result<Compared, Fault> {
     let mut compared = Compared::default();
-    for example in examples(page)? {
+    for Example { image, steps } in examples(page)? {
         compared.images += 1;
-        for sheet in &example.sheets {
-            compare_sheet(&example.image, sheet)?;
-            compared.sheets += 1;
-            compared.registers += sheet.registers.len();
-            compared.instructions += sheet.instructions.len();
+        let mut run = Run { image, turns: 0 };
+        for step in &steps {
+            run.compare(step)?;
+            compared.count(&step.what);
         }
     }
     Ok(compared)
 }
 
-fn compare_sheet(image: &[u8], should: &Sheet) -> Result<(), Fault> {
-    let (text, view) = run(image, should.turns, should.observer)
-        .unwrap_or_else(|refusal| (format!("refused {}\n", refusal.number()), Vec::new()));
+impl Compared {
+    fn count(&mut self, what: &What) {
+        match what {
+            What::Post(_) => self.posts += 1,
+            What::Sheet(sheet) => {
+                self.sheets += 1;
+                self.registers += sheet.registers.len();
+                self.instructions += sheet.instructions.len();
+            }
+        }
+    }
+}
+
+/// An example under way: its image after so many turns, with the posts that were made.
+struct Run {
+    image: Vec<u8>,
+    turns: u64,
+}
+
+impl Run {
+    fn compare(&mut self, step: &Step) -> Result<(), Fault> {
+        let more = step.turns.checked_sub(self.turns).ok_or_else(|| Fault {
+            line: step.line,
+            message: format!("{} turns were run before this line", self.turns),
+        })?;
+        self.turns = step.turns;
+        match &step.what {
+            What::Post(should) => compare_post(self.post(more, should), should, step.line),
+            What::Sheet(should) => compare_sheet(self.show(more, should.observer), should, step.line),
+        }
+    }
+
+    fn go_on(&mut self, more: u64) -> Result<(), Refusal> {
+        self.image = turns(&self.image, more)?.image;
+        Ok(())
+    }
+
+    /// Whether the post was delivered.
+    fn post(&mut self, more: u64, of: &Post) -> Result<bool, Refusal> {
+        self.go_on(more)?;
+        let posted = post(&self.image, of.slot, of.label, of.value)?;
+        self.image = posted.image;
+        Ok(posted.delivered)
+    }
+
+    /// The observer's sheet and its view.
+    fn show(&mut self, more: u64, observer: u32) -> Result<(String, Vec<u8>), Refusal> {
+        self.go_on(more)?;
+        let text = String::from_utf8_lossy(&sheet(&self.image, observer)?).into_owned();
+        Ok((text, view(&self.image, observer)?))
+    }
+}
+
+fn refused(refusal: Refusal) -> String {
+    format!("refused {}", refusal.number())
+}
+
+fn compare_post(delivered: Result<bool, Refusal>, should: &Post, line: usize) -> Result<(), Fault> {
+    let told = delivered.map_or_else(refused, |delivered| if delivered { "delivered" } else { "dropped" }.into());
+    if told != should.told {
+        return Err(Fault { line, message: format!("the monitor tells `{told}`") });
+    }
+    Ok(())
+}
+
+fn compare_sheet(shown: Result<(String, Vec<u8>), Refusal>, should: &Sheet, line: usize) -> Result<(), Fault> {
+    let (text, view) = shown.unwrap_or_else(|refusal| (refused(refusal) + "\n", Vec::new()));
     if text != should.text {
-        return Err(Fault { line: should.line, message: format!("the monitor gives\n{text}") });
+        return Err(Fault { line, message: format!("the monitor gives\n{text}") });
     }
     should.registers.iter().try_for_each(|register| compare_register(&view, register))?;
     should.instructions.iter().try_for_each(|instruction| compare_instruction(&view, instruction))
-}
-
-/// The observer's sheet and its view.
-fn run(image: &[u8], count: u64, observer: u32) -> Result<(String, Vec<u8>), Refusal> {
-    let after = turns(image, count)?.image;
-    let text = String::from_utf8_lossy(&sheet(&after, observer)?).into_owned();
-    Ok((text, view(&after, observer)?))
 }
 
 fn compare_register(view: &[u8], should: &Register) -> Result<(), Fault> {

@@ -4,16 +4,37 @@ use imagetext::Fault;
 
 use crate::block::{blocks, Block};
 
+const SHEET: &str = "after N turns, observer V";
+const POST: &str = "after N turns, post VALUE with label L to slot S: TOLD";
+
 pub struct Example {
     pub image: Vec<u8>,
-    pub sheets: Vec<Sheet>,
+    pub steps: Vec<Step>,
 }
 
-/// What the page says of an image after some turns, for an observer.
-pub struct Sheet {
+/// What the page says of an image after some turns in all.
+pub struct Step {
     /// The line of the page, from 1, on which it begins.
     pub line: usize,
     pub turns: u64,
+    pub what: What,
+}
+
+pub enum What {
+    Post(Post),
+    Sheet(Sheet),
+}
+
+/// A post, and what the host is told of it.
+pub struct Post {
+    pub slot: u32,
+    pub label: u32,
+    pub value: u32,
+    pub told: String,
+}
+
+/// What an observer is shown.
+pub struct Sheet {
     pub observer: u32,
     /// The lines that the monitor gives, each with its line feed.
     pub text: String,
@@ -47,44 +68,58 @@ fn example(block: &Block) -> Result<Example, Fault> {
         });
     }
     let Some(image_lines) = block.lines.iter().position(|line| line.starts_with("after ")) else {
-        return Err(Fault { line: block.line, message: "this example has no line `after N turns, observer V`".into() });
+        return Err(Fault { line: block.line, message: format!("this example has no line `{SHEET}`") });
     };
-    let (image, sheets) = block.lines.split_at(image_lines);
+    let (image, steps) = block.lines.split_at(image_lines);
     Ok(Example {
         image: imagetext::image(&image.join("\n"))
             .map_err(|fault| Fault { line: block.line + fault.line, message: fault.message })?,
-        sheets: read_sheets(sheets, block.line + 1 + image_lines)?,
+        steps: read_steps(steps, block.line + 1 + image_lines)?,
     })
 }
 
-/// The sheets on some lines of an example, the first of which has this number in the page.
-fn read_sheets(lines: &[&str], first: usize) -> Result<Vec<Sheet>, Fault> {
-    let mut sheets: Vec<Sheet> = Vec::new();
+/// The steps on some lines of an example, the first of which has this number in the page.
+fn read_steps(lines: &[&str], first: usize) -> Result<Vec<Step>, Fault> {
+    let mut steps: Vec<Step> = Vec::new();
     for (line, words) in (first..).zip(lines) {
         let fault = |form: &str| Fault { line, message: format!("`{words}` is not `{form}`") };
-        match (sheets.last_mut(), words.split(' ').next()) {
-            (None, _) | (_, Some("after")) => {
-                sheets.push(sheet(line, words).ok_or_else(|| fault("after N turns, observer V"))?);
-            }
-            (Some(sheet), Some("register")) => {
+        match (steps.last_mut().map(|step| &mut step.what), words.split(' ').next()) {
+            (Some(What::Sheet(sheet)), Some("register")) => {
                 let register = register(line, words).ok_or_else(|| fault("register R of slot S is VALUE"))?;
                 sheet.registers.push(register);
             }
-            (Some(sheet), Some("instruction")) => {
+            (Some(What::Sheet(sheet)), Some("instruction")) => {
                 let instruction = instruction(line, words).ok_or_else(|| fault("instruction P is WORD A B C"))?;
                 sheet.instructions.push(instruction);
             }
-            (Some(sheet), _) => sheet.text += &format!("{words}\n"),
+            (Some(What::Sheet(sheet)), Some(word)) if word != "after" => sheet.text += &format!("{words}\n"),
+            _ => {
+                let form = if words.contains(", post ") { POST } else { SHEET };
+                steps.push(step(line, words).ok_or_else(|| fault(form))?);
+            }
         }
     }
-    Ok(sheets)
+    Ok(steps)
 }
 
-fn sheet(line: usize, words: &str) -> Option<Sheet> {
-    let words: Vec<&str> = words.split(' ').collect();
-    let ["after", turns, "turn," | "turns,", "observer", observer] = words[..] else { return None };
-    let (turns, observer) = (turns.parse().ok()?, observer.parse().ok()?);
-    Some(Sheet { line, turns, observer, text: String::new(), registers: Vec::new(), instructions: Vec::new() })
+fn step(line: usize, words: &str) -> Option<Step> {
+    let (turns, what) = words.strip_prefix("after ")?.split_once(", ")?;
+    let turns = turns.strip_suffix(" turns").or_else(|| turns.strip_suffix(" turn"))?.parse().ok()?;
+    let what = post(what).map(What::Post).or_else(|| sheet(what).map(What::Sheet))?;
+    Some(Step { line, turns, what })
+}
+
+fn post(words: &str) -> Option<Post> {
+    let (post, told) = words.split_once(": ")?;
+    let words: Vec<&str> = post.split(' ').collect();
+    let ["post", value, "with", "label", label, "to", "slot", slot] = words[..] else { return None };
+    let (slot, label, value) = (slot.parse().ok()?, label.parse().ok()?, value.parse().ok()?);
+    Some(Post { slot, label, value, told: told.into() })
+}
+
+fn sheet(words: &str) -> Option<Sheet> {
+    let observer = words.strip_prefix("observer ")?.parse().ok()?;
+    Some(Sheet { observer, text: String::new(), registers: Vec::new(), instructions: Vec::new() })
 }
 
 fn register(line: usize, words: &str) -> Option<Register> {

@@ -27,17 +27,36 @@ refused 5
 ```
 ";
 
+const POSTS: &str = "\
+```example
+program
+    raise 2 0 0
+slot 1
+after 1 turn, post 5 with label 2 to slot 1: delivered
+after 1 turn, post 6 with label 2 to slot 0: dropped
+after 2 turns, post 7 with label 16 to slot 1: refused 15
+after 3 turns, observer 2
+slot kind label spare pc mail
+1 1 2 0 1 1
+```
+";
+
 #[test]
 fn everything_is_counted() {
-    assert_eq!(compare(PAGE), Ok(Compared { images: 2, sheets: 4, registers: 1, instructions: 1 }));
+    assert_eq!(compare(PAGE), Ok(Compared { images: 2, posts: 0, sheets: 4, registers: 1, instructions: 1 }));
+    assert_eq!(compare(POSTS), Ok(Compared { images: 1, posts: 3, sheets: 1, registers: 0, instructions: 0 }));
     assert_eq!(compare("# No example\n"), Ok(Compared::default()));
 }
 
-/// The page with one change has this fault.
-fn expect_fault(from: &str, to: &str, should: &str) {
-    assert_eq!(PAGE.matches(from).count(), 1, "{from}");
-    let fault = compare(&PAGE.replace(from, to)).expect_err(to);
+/// A page with one change has this fault.
+fn expect_fault_in(page: &str, from: &str, to: &str, should: &str) {
+    assert_eq!(page.matches(from).count(), 1, "{from}");
+    let fault = compare(&page.replace(from, to)).expect_err(to);
     assert_eq!(fault.to_string(), should);
+}
+
+fn expect_fault(from: &str, to: &str, should: &str) {
+    expect_fault_in(PAGE, from, to, should);
 }
 
 #[test]
@@ -74,4 +93,30 @@ fn what_has_not_the_form() {
         expect_fault("0 is raise 1 0 0", wrong, &should);
     }
     expect_fault("slot 0\nafter 1 turn, ", "slot 0\n# ", "18: this example has no line `after N turns, observer V`");
+}
+
+#[test]
+fn posts_that_the_monitor_tells_otherwise() {
+    let expect = |from: &str, to: &str, should: &str| expect_fault_in(POSTS, from, to, should);
+    expect("delivered", "dropped", "5: the monitor tells `delivered`");
+    expect("dropped", "delivered", "6: the monitor tells `dropped`");
+    expect("slot 0: dropped", "slot 16: dropped", "6: the monitor tells `refused 14`");
+    expect("refused 15", "refused 14", "7: the monitor tells `refused 15`");
+    expect("raise 2 0 0", "raise 16 0 0", "5: the monitor tells `refused 6`");
+    expect("label 16 to", "label 2 to", "7: the monitor tells `delivered`");
+    expect("1 1 2 0 1 1", "1 1 2 0 1 0", "8: the monitor gives\nslot kind label spare pc mail\n1 1 2 0 1 1\n");
+    expect("after 3 turns", "after 1 turn", "8: 2 turns were run before this line");
+}
+
+#[test]
+fn posts_that_have_not_the_form() {
+    let form = "after N turns, post VALUE with label L to slot S: TOLD";
+    let expect = |from: &str, to: &str, line: &str| {
+        let should = format!("6: `{line}` is not `{form}`");
+        expect_fault_in(POSTS, from, to, &should);
+    };
+    expect("0: dropped", "0, dropped", "after 1 turn, post 6 with label 2 to slot 0, dropped");
+    expect("post 6", "post six", "after 1 turn, post six with label 2 to slot 0: dropped");
+    expect("6 with", "6 of", "after 1 turn, post 6 of label 2 to slot 0: dropped");
+    expect_fault_in(POSTS, "dropped", "dropped\nmail", "7: `mail` is not `after N turns, observer V`");
 }

@@ -8,9 +8,11 @@ const PAGE: &str = include_str!("../../../docs/TASKS.md");
 
 #[test]
 fn the_page_says_what_the_monitor_gives() {
-    let Compared { images, sheets, registers, instructions } =
+    let Compared { images, posts, sheets, registers, instructions } =
         compare(PAGE).unwrap_or_else(|fault| panic!("docs/TASKS.md:{fault}"));
-    let found = format!("{images} images, {sheets} sheets, {registers} registers and {instructions} instructions");
+    let found = format!(
+        "{images} images, {posts} posts, {sheets} sheets, {registers} registers and {instructions} instructions"
+    );
     assert!(
         images >= 5 && PAGE.contains(&found),
         "docs/TASKS.md says another number of examples than was found: {found}"
