@@ -55,7 +55,6 @@ impl Run {
             line: step.line,
             message: format!("{} turns were run before this line", self.turns),
         })?;
-        self.turns = step.turns;
         match &step.what {
             What::Post(should) => compare_post(self.post(more, should), should, step.line),
             What::Sheet(should) => compare_sheet(self.show(more, should.observer), should, step.line),
@@ -64,6 +63,7 @@ impl Run {
 
     fn go_on(&mut self, more: u64) -> Result<(), Refusal> {
         self.image = turns(&self.image, more)?.image;
+        self.turns += more;
         Ok(())
     }
 

@@ -48,6 +48,13 @@ fn everything_is_counted() {
     assert_eq!(compare("# No example\n"), Ok(Compared::default()));
 }
 
+#[test]
+fn a_step_that_is_refused_runs_no_turn() {
+    let ahead = "after 1000001 turns, observer 0\nrefused 2\n";
+    let page = POSTS.replace("after 1 turn, post 5", &format!("{ahead}after 1 turn, post 5"));
+    assert_eq!(compare(&page).map(|compared| compared.sheets), Ok(2));
+}
+
 /// A page with one change has this fault.
 fn expect_fault_in(page: &str, from: &str, to: &str, should: &str) {
     assert_eq!(page.matches(from).count(), 1, "{from}");

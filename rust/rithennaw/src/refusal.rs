@@ -8,7 +8,7 @@ use std::{error, fmt};
 macro_rules! refusals {
     ($($name:ident = $number:literal, $word:literal, $text:literal;)*) => {
         /// Why a call was refused: the first rule that is broken. The numbers are those of the scope document and its change
-        /// requests, and so are the words up to 13; the others have none there. A later edition may have more of them.
+        /// requests, and so are the words of 1 to 13; for the others the documents have none. A later edition may have more.
         #[non_exhaustive]
         #[derive(Debug, Clone, Copy, PartialEq, Eq, Hash)]
         #[repr(u8)]
