@@ -1,4 +1,5 @@
-//! A plain interpreter of document 01, written separately from the monitor and compared with it.
+//! A plain interpreter of document 01 and request U1 of document 02, written separately from the monitor and compared
+//! with it.
 
 #![forbid(unsafe_code)]
 #![deny(missing_docs)]
@@ -9,6 +10,7 @@ mod label;
 mod mailbox;
 mod read;
 mod refusal;
+mod sender;
 mod sheet;
 mod slot;
 mod step;
@@ -21,12 +23,15 @@ use std::ops::Range;
 
 use image::Image;
 use label::Label;
+use mailbox::Message;
 use refusal::Refusal;
+use sender::Sender;
+use slot::Slot;
 
 /// The most turns of one call.
 const TURN_LIMIT: u64 = 1_000_000;
 
-/// What a call that writes tells: document 01's number, the answer's length, the busy count.
+/// What a call that writes tells: the number in documents 01 and 02, the answer's length, the busy count.
 #[derive(Debug, Clone, Copy, PartialEq, Eq)]
 pub struct Answer {
     /// 0 for an accepted call, else the number of its refusal.
@@ -35,6 +40,17 @@ pub struct Answer {
     pub length: usize,
     /// How many turns met a live task.
     pub busy: u64,
+}
+
+/// What a post tells, to the host alone: the number in documents 01 and 02, the answer's length, delivered or dropped.
+#[derive(Debug, Clone, Copy, PartialEq, Eq)]
+pub struct PostAnswer {
+    /// 0 for an accepted call, else the number of its refusal.
+    pub number: u8,
+    /// How many bytes were written.
+    pub length: usize,
+    /// Whether the message joined the mailbox; a refused call says dropped.
+    pub delivered: bool,
 }
 
 /// The image's number by itself: 0 where it is accepted.
@@ -62,6 +78,12 @@ pub fn turns(image: &[u8], count: u64, out: &mut [u8]) -> Answer {
     answer(turned(image, count), out)
 }
 
+/// Writes the image after the host has posted a message of this label and value to this slot.
+pub fn post(image: &[u8], slot: u32, label: u32, value: u32, out: &mut [u8]) -> PostAnswer {
+    let (number, length, delivered) = written(posted(image, slot, label, value), out);
+    PostAnswer { number, length, delivered }
+}
+
 /// Writes the observer's view of an image.
 pub fn view(image: &[u8], observer: u32, out: &mut [u8]) -> Answer {
     let view = visible(image, observer).map(|image| write::write(&image));
@@ -82,15 +104,15 @@ pub fn slotsheet(input: &[u8]) -> Vec<u8> {
         .into_bytes()
 }
 
-/// The bytes of a call's answer and its busy count.
-type Outcome = Result<(Vec<u8>, u64), Refusal>;
+/// The bytes of a call's answer and what else it tells: its busy count, or whether it delivered.
+type Outcome<T> = Result<(Vec<u8>, T), Refusal>;
 
-fn rewritten(image: &[u8]) -> Outcome {
+fn rewritten(image: &[u8]) -> Outcome<u64> {
     let (image, _) = read::read(image)?;
     Ok((write::write(&image), 0))
 }
 
-fn turned(image: &[u8], count: u64) -> Outcome {
+fn turned(image: &[u8], count: u64) -> Outcome<u64> {
     if count > TURN_LIMIT {
         return Err(Refusal::TurnLimit);
     }
@@ -99,20 +121,42 @@ fn turned(image: &[u8], count: u64) -> Outcome {
     Ok((write::write(&image), busy))
 }
 
+fn posted(image: &[u8], slot: u32, label: u32, value: u32) -> Outcome<bool> {
+    if Slot::new(slot).is_none() {
+        return Err(Refusal::PostSlot);
+    }
+    let label = label_numbered(label).ok_or(Refusal::PostLabel)?;
+    let (mut image, _) = read::read(image)?;
+    let message = Message { label, sender: Sender::HOST, value };
+    let delivered = step::deliver(&mut image.tasks, slot, message);
+    Ok((write::write(&image), delivered))
+}
+
 /// The image with what the observer may not see left out.
 fn visible(image: &[u8], observer: u32) -> Result<Image<'_>, Refusal> {
-    let observer = u8::try_from(observer).ok().and_then(Label::new).ok_or(Refusal::Observer)?;
+    let observer = label_numbered(observer).ok_or(Refusal::Observer)?;
     let (mut image, _) = read::read(image)?;
     image.keep_visible(observer);
     Ok(image)
 }
 
-/// Copies the bytes of an accepted call to the front of the output, if they fit.
-fn answer(outcome: Outcome, out: &mut [u8]) -> Answer {
-    let written = outcome.and_then(|(bytes, busy)| {
+/// The label that a caller's number stands for.
+fn label_numbered(number: u32) -> Option<Label> {
+    u8::try_from(number).ok().and_then(Label::new)
+}
+
+fn answer(outcome: Outcome<u64>, out: &mut [u8]) -> Answer {
+    let (number, length, busy) = written(outcome, out);
+    Answer { number, length, busy }
+}
+
+/// Copies the bytes of an accepted call to the front of the output, if they fit; the number, the length and what else
+/// the call tells, which is its default, 0 or false, after a refusal.
+fn written<T: Default>(outcome: Outcome<T>, out: &mut [u8]) -> (u8, usize, T) {
+    let written = outcome.and_then(|(bytes, told)| {
         let front = out.get_mut(..bytes.len()).ok_or(Refusal::Output)?;
         front.copy_from_slice(&bytes);
-        Ok(Answer { number: 0, length: bytes.len(), busy })
+        Ok((0, bytes.len(), told))
     });
-    written.unwrap_or_else(|refusal| Answer { number: refusal.number(), length: 0, busy: 0 })
+    written.unwrap_or_else(|refusal| (refusal.number(), 0, T::default()))
 }

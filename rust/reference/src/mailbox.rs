@@ -3,13 +3,13 @@
 use std::collections::VecDeque;
 
 use crate::label::Label;
-use crate::slot::Slot;
+use crate::sender::Sender;
 
 /// A message as it lies in a mailbox.
 #[derive(Debug, Clone, Copy, PartialEq, Eq)]
 pub struct Message {
     pub label: Label,
-    pub sender: Slot,
+    pub sender: Sender,
     pub value: u32,
 }
 

@@ -7,6 +7,7 @@ use crate::instruction::Instruction;
 use crate::label::Label;
 use crate::mailbox::{Mailbox, Message};
 use crate::refusal::Refusal;
+use crate::sender::Sender;
 use crate::slot::Slot;
 use crate::task::{Kind, Registers, Task};
 
@@ -127,7 +128,7 @@ fn read_mailbox(reader: &mut Reader<'_>) -> Result<Mailbox, Refusal> {
     let mut mailbox = Mailbox::new();
     while !reader.rest().is_empty() {
         let label = Label::new(reader.byte()?).ok_or(Refusal::Mail)?;
-        let sender = Slot::new(reader.byte()?.into()).ok_or(Refusal::Mail)?;
+        let sender = Sender::new(reader.byte()?).ok_or(Refusal::Mail)?;
         let value = reader.four_bytes()?;
         if !mailbox.push(Message { label, sender, value }) {
             return Err(Refusal::Mail);

@@ -1,6 +1,6 @@
 //! The numbers a caller may receive for a refused call.
 
-/// Why a call is refused; the value is document 01's number.
+/// Why a call is refused; the value is the number in documents 01 and 02.
 #[derive(Debug, Clone, Copy, PartialEq, Eq)]
 pub enum Refusal {
     /// The label asked for is above 15.
@@ -21,7 +21,7 @@ pub enum Refusal {
     RecordLength = 8,
     /// Kind, label or place is out of range, or slot + spare is above 15.
     TaskField = 9,
-    /// A message's label or sender is above 15, or five or more are of one label.
+    /// A message's label is above 15 or its sender above 16, or five or more are of one label.
     Mail = 10,
     /// Bytes after slot 15; for the program `slotsheet`, more input than its buffer holds.
     Tail = 11,
@@ -29,10 +29,14 @@ pub enum Refusal {
     Estate = 12,
     /// The output is shorter than the answer.
     Output = 13,
+    /// The slot to post to is above 15.
+    PostSlot = 14,
+    /// The label of the message to post is above 15.
+    PostLabel = 15,
 }
 
 impl Refusal {
-    /// Document 01's number.
+    /// The number in documents 01 and 02.
     pub fn number(self) -> u8 {
         self as u8
     }

@@ -44,6 +44,7 @@ fn turn(image: &mut Image<'_>) -> bool {
         Effect::Stop(kind) => task.kind = kind,
         Effect::Deliver { to, message } => {
             task.place += 1;
+            // The sender goes on identically, delivered or dropped.
             deliver(&mut image.tasks, to, message);
         }
         Effect::Spawn { child, start, size } => {
@@ -54,12 +55,10 @@ fn turn(image: &mut Image<'_>) -> bool {
     true
 }
 
-/// Puts the message into the mailbox of a live task with room for it, and else drops it.
-fn deliver(tasks: &mut Tasks, to: u32, message: Message) {
+/// Puts the message into the mailbox of a live task with room for it, and else drops it; tells whether it was delivered.
+pub fn deliver(tasks: &mut Tasks, to: u32, message: Message) -> bool {
     let receiver = Slot::new(to).and_then(|slot| tasks[slot.index()].as_mut());
-    if let Some(task) = receiver.filter(|task| task.is_live()) {
-        task.mailbox.push(message);
-    }
+    receiver.filter(|task| task.is_live()).is_some_and(|task| task.mailbox.push(message))
 }
 
 impl Task {
@@ -102,7 +101,7 @@ impl Task {
         if !self.label.flows_to(label) {
             return Effect::Stop(Kind::StoppedByLabel);
         }
-        let message = Message { label, sender: own, value: self.registers.get(value) };
+        let message = Message { label, sender: own.into(), value: self.registers.get(value) };
         Effect::Deliver { to: self.registers.get(to), message }
     }
 

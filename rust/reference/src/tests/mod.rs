@@ -2,10 +2,11 @@
 //! and the monitor alike, by the crate `differential`.
 
 mod calls;
+mod posts;
 mod refusals;
 mod steps;
 
-use crate::{turns, Answer};
+use crate::turns;
 use layout::{Image, Instruction, Message, Task};
 
 /// More room than the longest answer needs.
@@ -33,13 +34,13 @@ fn after(image: &Image, count: u64) -> (Vec<u8>, u64) {
     let mut out = vec![UNTOUCHED; ROOM];
     let answer = turns(&image.bytes(), count, &mut out);
     assert_eq!(answer.number, 0);
-    (written(answer, &out), answer.busy)
+    (written(answer.length, &out), answer.busy)
 }
 
-/// The bytes of an answer; nothing may have been written behind them.
-fn written(answer: Answer, out: &[u8]) -> Vec<u8> {
-    assert!(out[answer.length..].iter().all(|&byte| byte == UNTOUCHED));
-    out[..answer.length].to_vec()
+/// The bytes of an answer of this length; nothing may have been written behind them.
+fn written(length: usize, out: &[u8]) -> Vec<u8> {
+    assert!(out[length..].iter().all(|&byte| byte == UNTOUCHED));
+    out[..length].to_vec()
 }
 
 /// The image B of the checked examples.

@@ -1,12 +1,17 @@
 //! One image for each number and the order in which they are given.
 
 use super::{after, b, image, mail, END, ROOM, UNTOUCHED};
-use crate::{check, record, rewrite, sheet, turns, view, Answer};
+use crate::{check, post, record, rewrite, sheet, turns, view, Answer, PostAnswer};
 use layout::{Image, Task};
 
 /// What a refused call tells.
 fn refused(number: u8) -> Answer {
     Answer { number, length: 0, busy: 0 }
+}
+
+/// What a refused post tells.
+fn post_refused(number: u8) -> PostAnswer {
+    PostAnswer { number, length: 0, delivered: false }
 }
 
 /// Every call that reads this image refuses it with this number and writes nothing.
@@ -18,6 +23,7 @@ fn assert_refused(bytes: &[u8], number: u8) {
     assert_eq!(turns(bytes, 3, &mut out), expected);
     assert_eq!(view(bytes, 15, &mut out), expected);
     assert_eq!(sheet(bytes, 15, &mut out), expected);
+    assert_eq!(post(bytes, 5, 0, 0, &mut out), post_refused(number));
     assert!(out.iter().all(|&byte| byte == UNTOUCHED));
     assert!((0..17).all(|slot| record(bytes, slot) == (0..0)));
 }
@@ -137,11 +143,20 @@ fn task_fields_out_of_range_are_9() {
 fn mail_out_of_range_is_10() {
     let changes: [fn(&mut Task); 3] = [
         |task| task.mail = mail([(16, 0, 0)]),
-        |task| task.mail = mail([(0, 16, 0)]),
+        |task| task.mail = mail([(0, 17, 0)]),
         |task| task.mail = mail([(1, 0, 0), (1, 0, 0), (2, 0, 0), (1, 0, 0), (1, 0, 0), (1, 0, 0)]),
     ];
     for change in changes {
         assert_refused(&b_with(change), 10);
+    }
+}
+
+#[test]
+fn senders_up_to_16_are_accepted_and_others_are_10() {
+    for sender in 0..=255 {
+        let mut image = b();
+        image.task(5).mail = mail([(0, sender, 0)]);
+        assert_eq!(check(&image.bytes()), if sender <= 16 { 0 } else { 10 });
     }
 }
 
@@ -181,6 +196,26 @@ fn arguments_come_ahead_of_the_image() {
     assert_eq!(sheet(&[], u32::MAX, &mut []).number, 1);
     assert_eq!(turns(&[], 1_000_001, &mut []).number, 2);
     assert_eq!(turns(&[], u64::MAX, &mut []).number, 2);
+}
+
+#[test]
+fn the_slot_of_a_post_comes_ahead_of_its_label_and_the_label_ahead_of_the_image() {
+    let accepted = b().bytes();
+    let mut out = [UNTOUCHED; ROOM];
+    for above in [16, 17, 256 + 5, 65536 + 5, u32::MAX] {
+        for bytes in [&accepted[..], &[2], &[]] {
+            for room in [0, ROOM] {
+                assert_eq!(post(bytes, above, 0, 0, &mut out[..room]), post_refused(14));
+                assert_eq!(post(bytes, above, above, 0, &mut out[..room]), post_refused(14));
+                assert_eq!(post(bytes, 15, above, 0, &mut out[..room]), post_refused(15));
+            }
+        }
+    }
+    assert!(out.iter().all(|&byte| byte == UNTOUCHED));
+    assert_eq!(post(&[2], 15, 15, 0, &mut []), post_refused(4));
+    assert_eq!(post(&[], 15, 15, 0, &mut []), post_refused(3));
+    assert_eq!(post(&accepted, 15, 15, 0, &mut []), post_refused(13));
+    assert_eq!(post(&accepted, 15, 15, 0, &mut out).number, 0);
 }
 
 /// Each image has two or more faults; the first in document 01's order is given.
