@@ -1,4 +1,4 @@
--- 01's traps of this trade, and two more: a state each on which a machine that falls into the trap breaks the view law.
+-- 01's traps of this trade, and four more: a state each on which a machine that falls into the trap breaks the view law.
 -- Rows by computation, for an observer from whom the named task or message is hidden.
 use Prim.Native.Nat.{ℕ}
 use mathlib.Core.Path.{_≡_, refl}
@@ -11,12 +11,18 @@ use Rattle.instruction.specs.Program as Program
 use Rattle.machine.specs.State.{Message, Task, unused, used, State, withMailbox}
 use Rattle.machine.specs.Effect as Effect
 use Rattle.machine.specs.Turn as Turn
+use Rattle.machine.specs.Post as Post
+use Rattle.machine.specs.Post.{post}
 use Rattle.machine.specs.View as View
 use Rattle.machine.specs.Machine.{turns, view}
 
 -- a turn of the view shows what the turn shows
 abbrev ShownAlike : ℕ → State → Type 0
 ShownAlike v s = view v (turns 1 (view v s)) ≡ view v (turns 1 s)
+
+-- and so is a post to slot j with a label
+abbrev PostShownAlike : ℕ → ℕ → ℕ → State → Type 0
+PostShownAlike v j label s = view v (post j label 7 (view v s)) ≡ view v (post j label 7 s)
 
 -- a live task at place 0 whose registers hold their numbers
 abbrev task : ℕ → ℕ → Task
@@ -48,8 +54,12 @@ pub record Traps : Type 0 where
   pub unchecked : ShownAlike 0 (state (send 1 0) 0 (task 1 0) 1 (task 0 0))
   -- a raise that replaces the label: the task is hidden from the observer of label 2
   pub replaced : ShownAlike 2 (state (0x07 ∷ 2 ∷ 0 ∷ 0 ∷ []) 0 (task 1 0) 1 (task 0 0))
+  -- a post that tells a task of its receiver: the receiver is hidden
+  pub posted : PostShownAlike 0 2 0 (state (send 1 0) 0 (task 0 0) 2 (task 1 0))
+  -- one common mailbox limit for posts: four hidden messages wait
+  pub crowded : PostShownAlike 0 1 0 (state (send 1 0) 0 (task 0 0) 1 (withMailbox (replicate 4 (message 1)) (task 0 0)))
 
 pub traps : Traps
 unfolding Lists.each Label.flows Table.decode Program.instructionAt Effect.execute Effect.outcome Turn.turnBy
-    Turn.turnsBy View.viewBy
-traps = record { limit = refl; told = refl; child = refl; skipped = refl; oldest = refl; unchecked = refl; replaced = refl }
+    Turn.turnsBy Post.post View.viewBy
+traps = record { limit = refl; told = refl; child = refl; skipped = refl; oldest = refl; unchecked = refl; replaced = refl; posted = refl; crowded = refl }
