@@ -1,18 +1,18 @@
--- Laws of a post: when it says delivered, and that a post which goes so keeps its promise.
+-- Laws of a post: when it says delivered, and that a call which says so keeps its promise.
 use Prim.Native.Nat.{ℕ}
 use mathlib.Core.Logic.{_≢_}
 use mathlib.Core.Path.{_≡_, sym, ap, _∙_}
-use mathlib.Core.Bool.{Bool, false, _&&_}
+use mathlib.Core.Bool.{Bool, true, false, _&&_}
 use mathlib.Core.List.{List}
-use borrow.Author.Tests.{eq-eqb, ne-eqb}
+use borrow.Author.Tests.{eqb-true, eqb-false, eq-eqb, ne-eqb}
 use lib.Dec.{eqb}
+use Rattle.wire.proofs.Lists.{split}
 use Rattle.machine.specs.Post.{delivered}
 use Rattle.image.specs.Image.{stateOf}
-use Rattle.image.specs.Refusal.{postNumber, imageNumber}
 use Rattle.monitor.specs.declared.Answer.{Answer}
 use Rattle.monitor.specs.declared.PostAnswer.{PostAnswer}
 use Rattle.monitor.specs.Calls.{callNumber, refusal, callAnswer, CallPromise, postCall, postDelivered, PostPromise}
-use Rattle.monitor.proofs.Calls.{answer-number, call-beyond, call-refused}
+use Rattle.monitor.proofs.Calls.{answer-number}
 
 module _ (slot label value : ℕ) (image out : List ℕ) where
   -- ---- what it says
@@ -24,27 +24,23 @@ module _ (slot label value : ℕ) (image out : List ℕ) where
       → postDelivered slot label value image out ≡ delivered slot label value (stateOf image)
   accepted-tells e = let c = postCall slot label value image in rw (eq-eqb (callNumber c out) 0 (sym (answer-number c out) ∙ e))
 
-  -- ---- a refused post
+  -- ---- a call that goes so, and says so of its message, keeps the promise
 
-  module _ {k : ℕ} (some : k ≢ 0) {r : PostAnswer} (told : r ≡ record { answer = refusal k; delivered = false }) where
-    refused-post : CallPromise (postCall slot label value image) out (r .answer) out → PostPromise slot label value image out r out
-    refused-post p =
-        let number : callAnswer (postCall slot label value image) out .number ≡ k
-        = ap (λ (a : Answer). a .number) (sym (p .0)) ∙ ap (λ (x : PostAnswer). x .answer .number) told in
-        (p, ap (λ (x : PostAnswer). x .delivered) told ∙ sym (refused-drops (λ e. some (sym number ∙ e))))
+  module _ {a : Answer} {after : List ℕ} (p : CallPromise (postCall slot label value image) out a after) where
+    number-is : a .number ≡ callAnswer (postCall slot label value image) out .number
+    number-is = ap (λ (x : Answer). x .number) (p .0)
 
-    -- for its arguments
-    pub post-beyond : k ≡ postNumber slot label → PostPromise slot label value image out r out
-    post-beyond beyond = refused-post (call-beyond (postCall slot label value image) out beyond some (ap (λ (x : PostAnswer). x .answer) told))
+    pub post-told : {joined : Bool} {r : PostAnswer} → (a .number ≡ 0 → joined ≡ delivered slot label value (stateOf image))
+        → r ≡ record { answer = a; delivered = eqb (a .number) 0 && joined } → PostPromise slot label value image out r after
+    post-told {joined} same told = rw told (p, split (eqb (a .number) 0) accepted refused)
+      where
+        accepted : eqb (a .number) 0 ≡ true → (eqb (a .number) 0 && joined) ≡ postDelivered slot label value image out
+        accepted e = let z = eqb-true (a .number) 0 e in rw e (same z ∙ sym (accepted-tells (sym number-is ∙ z)))
 
-    -- for its image
-    pub post-refused : postNumber slot label ≡ 0 → k ≡ imageNumber image → PostPromise slot label value image out r out
-    post-refused none number =
-        refused-post (call-refused (postCall slot label value image) out none number some (ap (λ (x : PostAnswer). x .answer) told))
+        refused : eqb (a .number) 0 ≡ false → (eqb (a .number) 0 && joined) ≡ postDelivered slot label value image out
+        refused e = rw e (sym (refused-drops (λ z. eqb-false (a .number) 0 e (number-is ∙ z))))
 
-  -- ---- one whose message has gone to the slot, with room for the image or without
-
-  pub post-done : {a : Answer} {after : List ℕ} {joined : Bool} → joined ≡ delivered slot label value (stateOf image)
-      → CallPromise (postCall slot label value image) out a after
-      → PostPromise slot label value image out (record { answer = a; delivered = eqb (a .number) 0 && joined }) after
-  post-done same p = let c = postCall slot label value image in (p, rw (p .0, answer-number c out, same))
+    -- a refused one
+    pub post-refused : {k : ℕ} → a ≡ refusal k → k ≢ 0 → {r : PostAnswer} → r ≡ record { answer = a; delivered = eqb (a .number) 0 && false }
+        → PostPromise slot label value image out r after
+    post-refused e some = post-told (λ z. absurd (some (ap (λ (x : Answer). x .number) (sym e) ∙ z)))

@@ -1,7 +1,8 @@
 // The monitor's calls. Each takes any bytes and refuses what it cannot take; what the calls mean and what is claimed of
 // them stands in specs/.
 ghost use mathlib.Core.Path.{_≡_};
-ghost use mathlib.Core.Bool.{false};
+ghost use mathlib.Core.Bool.{_&&_};
+ghost use lib.Dec.{eqb};
 ghost use denote.Ref.{ptr};
 ghost use Rattle.wire.specs.Slices.{offsetBy};
 ghost use Rattle.wire.specs.Inner.{written};
@@ -141,13 +142,13 @@ fn post_number(slot: u32, label: u32) -> u8
     }
 }
 
-// What a refused post tells.
-fn dropped(number: u8) -> PostAnswer
-    ensures { λ r. ⌜ r ≡ record { answer = refusal number; delivered = false } ⌝ }
+// What a post tells, given whether its message joined a mailbox: a refusal says dropped.
+fn post_answer(answer: Answer, joined: bool) -> PostAnswer
+    ensures { λ r. ⌜ r ≡ record { answer = answer; delivered = eqb (answer .number) 0 && joined } ⌝ }
 {
     PostAnswer {
-        answer: refused(number),
-        delivered: false,
+        answer: answer,
+        delivered: (answer.number == 0) & joined,
     }
 }
 
@@ -157,19 +158,15 @@ pub fn post(image: &[u8], slot: u32, label: u32, value: u32, out: &mut [u8]) -> 
 {
     let beyond = post_number(slot, label);
     if beyond > 0 {
-        return dropped(beyond);
+        return post_answer(refused(beyond), false);
     }
     let mut table: table::Table = [0; table::WORDS];
     let number = snapshot::load(&mut table, image);
     if number == 0 {
         let joined = turn::deliver(&mut table, slot, label as u8, image::HOST, value);
         let turn = image::turn_slot(image);
-        let answer = write_answer(out, &table, image, turn, 15, 0);
-        PostAnswer {
-            answer: answer,
-            delivered: (answer.number == 0) & joined,
-        }
+        post_answer(write_answer(out, &table, image, turn, 15, 0), joined)
     } else {
-        dropped(number)
+        post_answer(refused(number), false)
     }
 }

@@ -1,6 +1,7 @@
 -- `monitor::post` meets its contract: an accepted image is loaded, the message is delivered or dropped, and it is written for label 15.
 use borrow.Author.Needs.{needs}
-use Prim.Native.Nat.{ℕ, _≤_}
+use Prim.Native.Nat.{ℕ, _^_, _<_, _≤_}
+use mathlib.Core.Logic.{_≢_}
 use mathlib.Core.Path.{_≡_, refl, sym, ap, _∙_}
 use mathlib.Core.List.{List}
 use native.Mathlib.Omega.{arith}
@@ -20,8 +21,8 @@ use Rattle.snapshot.specs.Writing.{snapshotBytes}
 use Rattle.snapshot.proofs.Loading.{loaded-accepted}
 use Rattle.turn.proofs.Steps.{valid-room}
 use Rattle.image.proofs.Image.{accepted-valid}
-use Rattle.monitor.proofs.Calls.{post-within, call-accepted}
-use Rattle.monitor.proofs.Posts.{post-beyond, post-refused, post-done}
+use Rattle.monitor.proofs.Calls.{post-within, call-beyond, call-refused, call-accepted}
+use Rattle.monitor.proofs.Posts.{post-told, post-refused}
 use Rattle.monitor.proofs.Pipeline.{post-written}
 use Rattle.monitor.proofs.post.Statement.{statement}
 use Rattle.monitor.proofs.post.Tie as tie
@@ -57,6 +58,9 @@ module _ (p : tie.After-table2) where
   label-low : label ≤ highestLabel
   label-low = post-within slot label none .1
 
+  value-fits : p .before .before .before .before .before .before .before .before .args .value < 2 ^ 32
+  value-fits = omega arith
+
 cast-deliver : tie.Need-cast-deliver
 cast-deliver c = omega (arith, label-low c)
 
@@ -68,9 +72,12 @@ deliver-requires c κs = rw (loaded c) (valid-room (accepted-valid (image c) (by
 -- arguments beyond their limits
 returns : tie.Need-returns
 returns c =
-    let a = c .before .before .before .before .before .args in
-    post-beyond (a .slot) (a .label) (a .value) (now (a .image)) (now (a .out))
-    (λ e. omega (arith, c .before .if1 .taken)) (c .dropped .ensures) (c .before .before .post-number .ensures)
+    let a = c .before .before .before .before .before .before .args in
+    let r = c .before .refused .ensures in
+    let some = c .before .before .if1 .taken in
+    let none-left : c .before .before .before .post-number .result ≢ 0 = λ e. omega (arith, some) in
+    post-refused (a .slot) (a .label) (a .value) (now (a .image)) (now (a .out))
+    (call-beyond _ _ (c .before .before .before .post-number .ensures) none-left r) r none-left (c .post-answer .ensures)
 
 -- an accepted image
 returns-2 : tie.Need-returns-2
@@ -86,16 +93,19 @@ returns-2 c =
     let joined = d .ensures .1 ∙ ap (λ (ss : List Slot). hasMore (a .slot) ss (slotsIn words)) (loaded p) ∙ ap (hasMore (a .slot) (s .slots)) posted in
     let written =
     ap (λ (t : ℕ). snapshotBytes words (image p) t 15) (c .before .before .before .before .before .before .turn-slot .ensures)
-    ∙ post-written (image p) (bytes p) words (accepted p) (a .slot) (a .label) (a .value) (label-low p) (omega arith) posted in
-    post-done (a .slot) (a .label) (a .value) (image p) (now (a .out)) joined
-    (call-accepted _ _ (none p) (accepted p) written refl (c .before .before .before .write-answer .ensures))
+    ∙ post-written (image p) (bytes p) words (accepted p) (a .slot) (a .label) (a .value) (label-low p) (value-fits p) posted in
+    post-told (a .slot) (a .label) (a .value) (image p) (now (a .out))
+    (call-accepted _ _ (none p) (accepted p) written refl (c .before .before .before .write-answer .ensures)) (λ z. joined) (c .post-answer2 .ensures)
 
 -- a refused one
 returns-3 : tie.Need-returns-3
 returns-3 c =
-    let a = c .before .before .before .before .before .before .before .before .args in
-    post-refused (a .slot) (a .label) (a .value) (now (a .image)) (now (a .out)) (c .before .if2 .left) (c .dropped2 .ensures)
-    (no-number (c .before .before .before .before .before .post-number .ensures) (c .before .before .before .before .if1 .left)) (c .before .before .load .ensures .0)
+    let a = c .before .before .before .before .before .before .before .before .before .args in
+    let r = c .before .refused2 .ensures in
+    let some = c .before .before .if2 .left in
+    post-refused (a .slot) (a .label) (a .value) (now (a .image)) (now (a .out))
+    (call-refused _ _ (no-number (c .before .before .before .before .before .before .post-number .ensures) (c .before .before .before .before .before .if1 .left)) (c .before .before .before .load .ensures .0) some r) r some
+    (c .post-answer3 .ensures)
 
 pub post-spec : {M : Type 1} → statement M
 post-spec =
@@ -103,10 +113,13 @@ post-spec =
     (tie.spec
     (λ c κs. tt)
     (λ c κs. tt)
+    (λ c κs. tt)
     returns
     (λ c κs. tt)
     cast-deliver
     deliver-requires
+    (λ c κs. tt)
+    (λ c κs. tt)
     (λ c κs. tt)
     (λ c κs. tt)
     (λ c κs. tt)
