@@ -139,7 +139,7 @@ fn sweep(comparison: &mut Comparison, rng: &mut Rng) -> Outcome {
         each_call(comparison, rng, &image[..at])?;
         let mut changed = image.clone();
         let byte = image[at];
-        for value in [0, 1, 5, 6, 7, 8, 12, 13, 15, 16, 255, byte.wrapping_add(1), byte.wrapping_sub(1)] {
+        for value in [0, 1, 5, 6, 7, 8, 12, 13, 15, 16, 17, 255, byte.wrapping_add(1), byte.wrapping_sub(1)] {
             changed[at] = value;
             comparison.check(&changed)?;
             let calls = calls(rng);

@@ -6,6 +6,7 @@ use crate::programs::PROGRAM_MAX;
 use crate::rng::Rng;
 use layout::instructions::TABLE;
 use layout::{Image, Message, Task, MESSAGE_LENGTH, SLOTS, TASK_LENGTH};
+use rithennaw::HOST;
 
 /// A way to damage an image.
 pub struct Fault {
@@ -39,11 +40,11 @@ pub const FAULTS: [Fault; 28] = [
     fault(8, "record length above 421", |rng, image| record_length(rng, image, &[427, 433, 65_533, 65_535])),
     fault(8, "65 messages", messages_65),
     fault(9, "kind", |rng, image| task(rng, image, |rng, task| task.kind = rng.pick(&[0, 6, 255]))),
-    fault(9, "label", |rng, image| task(rng, image, |rng, task| task.label = above_15(rng))),
+    fault(9, "label", |rng, image| task(rng, image, |rng, task| task.label = above(rng, 15))),
     fault(9, "spare beyond slot 15", spare_beyond),
     fault(9, "place", place),
-    fault(10, "message label", |rng, image| message(rng, image, |rng, message| message.label = above_15(rng))),
-    fault(10, "message sender", |rng, image| message(rng, image, |rng, message| message.sender = above_15(rng))),
+    fault(10, "message label", |rng, image| message(rng, image, |rng, message| message.label = above(rng, 15))),
+    fault(10, "message sender", |rng, image| message(rng, image, |rng, message| message.sender = above(rng, HOST))),
     fault(10, "fifth message of a label", fifth_message),
     fault(10, "five messages of a label among others", five_of_full_mailbox),
     fault(11, "one byte of tail", |rng, image| tail(rng, image, 1)),
@@ -57,12 +58,13 @@ fn set<T>(field: &mut Option<T>, value: T) -> bool {
     true
 }
 
-/// A byte above 15, most often 16.
-fn above_15(rng: &mut Rng) -> u8 {
+/// A byte above the limit, most often the next one.
+fn above(rng: &mut Rng, limit: u8) -> u8 {
+    let next = limit + 1;
     if rng.one_in(3) {
-        rng.between(16, 255) as u8
+        rng.between(next.into(), 255) as u8
     } else {
-        16
+        next
     }
 }
 
@@ -112,7 +114,7 @@ fn operand(rng: &mut Rng, image: &mut Image, which: usize) -> bool {
 }
 
 fn turn_slot(rng: &mut Rng, image: &mut Image) -> bool {
-    image.turn_slot = above_15(rng);
+    image.turn_slot = above(rng, 15);
     true
 }
 

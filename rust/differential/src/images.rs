@@ -4,6 +4,7 @@
 use crate::programs::{self, PROGRAM_MAX};
 use crate::rng::Rng;
 use layout::{Image, Message, Task, SLOTS};
+use rithennaw::HOST;
 
 /// The most messages in a mailbox, and the most of one label.
 pub const MAIL_MAX: usize = 64;
@@ -22,11 +23,20 @@ pub fn value(rng: &mut Rng) -> u32 {
     }
 }
 
+/// Who sent a message: the host, or one of the slots.
+fn sender(rng: &mut Rng) -> u8 {
+    if rng.one_in(4) {
+        HOST
+    } else {
+        rng.byte_below(SLOTS as u16)
+    }
+}
+
 /// As many messages of those labels as a mailbox may hold, in a random order.
 fn all_mail(rng: &mut Rng, labels: &[u8]) -> Vec<Message> {
     let mut labels: Vec<u8> = labels.iter().flat_map(|&label| [label; MAIL_PER_LABEL]).collect();
     rng.shuffle(&mut labels);
-    labels.into_iter().map(|label| Message { label, sender: rng.byte_below(16), value: value(rng) }).collect()
+    labels.into_iter().map(|label| Message { label, sender: sender(rng), value: value(rng) }).collect()
 }
 
 /// Messages of those labels: none, some, or as many as there may be.

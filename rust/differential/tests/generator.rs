@@ -57,6 +57,16 @@ fn programs_have_every_instruction() {
     assert!(counts.iter().all(|&count| count >= 100), "{counts:?}");
 }
 
+#[test]
+fn messages_are_from_every_slot_and_from_the_host() {
+    let mut counts = [0; SLOTS + 1];
+    for (_, image) in made_up(500) {
+        let mail = image.slots.iter().flatten().flat_map(|task| &task.mail);
+        mail.for_each(|message| counts[usize::from(message.sender)] += 1);
+    }
+    assert!(counts.iter().all(|&count| count >= 100), "{counts:?}");
+}
+
 /// What became of a task in some turns, by its record before and after them.
 fn events(before: &[u8], after: &[u8]) -> Vec<String> {
     let mut events = Vec::new();
