@@ -1,7 +1,7 @@
 //! What is compared for a seed: an accepted image with every call and output, then the image damaged in many ways.
 
 use crate::calls::Call;
-use crate::compare::Comparison;
+use crate::compare::{Comparison, ROOM_MAX};
 use crate::damage::{self, FAULTS};
 use crate::images;
 use crate::report::{Fact, Mismatch};
@@ -25,7 +25,7 @@ pub fn run(comparison: &mut Comparison, seed: u64) -> Outcome {
     accepted(comparison, rng, &after)?;
     damaged(comparison, rng, &image, seed)?;
     if seed % LIMIT_EVERY == 0 {
-        turn_limit(comparison, rng, &image.bytes())?;
+        turn_limit(comparison, &image.bytes())?;
     }
     if seed % SWEEP_EVERY == 0 {
         sweep(comparison, rng)?;
@@ -59,18 +59,18 @@ fn calls(rng: &mut Rng) -> [Call; 4] {
 
 /// Every call of an accepted image with every output, and some records. Gives the image after the turns.
 fn accepted(comparison: &mut Comparison, rng: &mut Rng, image: &[u8]) -> Result<Vec<u8>, Mismatch> {
-    comparison.accepted(rng, image)?;
+    comparison.accepted(image)?;
     let mut after = image.to_vec();
     for call in calls(rng) {
-        let room = IMAGE_MAX + rng.below(9);
-        let agreed = comparison.call(rng, call, image, room)?;
+        let room = rng.between(IMAGE_MAX, ROOM_MAX);
+        let agreed = comparison.call(call, image, room)?;
         if agreed.answer.number != 0 {
             continue;
         }
         outputs(comparison, rng, call, image, agreed.answer.length)?;
         match call {
             Call::Turns(_) => after = agreed.bytes,
-            Call::View(_) => comparison.accepted(rng, &agreed.bytes)?,
+            Call::View(_) => comparison.accepted(&agreed.bytes)?,
             Call::Rewrite | Call::Sheet(_) => {}
         }
     }
@@ -82,12 +82,12 @@ fn accepted(comparison: &mut Comparison, rng: &mut Rng, image: &[u8]) -> Result<
 
 /// An accepted call whose answer has that length, with outputs that are long enough and others that are not.
 fn outputs(comparison: &mut Comparison, rng: &mut Rng, call: Call, image: &[u8], length: usize) -> Outcome {
-    comparison.call(rng, call, image, length)?;
+    comparison.call(call, image, length)?;
     comparison.tally.fact(Fact::JustEnough);
-    comparison.call(rng, call, image, length - 1)?;
+    comparison.call(call, image, length - 1)?;
     comparison.tally.fact(Fact::ByteTooShort);
     for room in [rng.below(length), rng.between(length, IMAGE_MAX), 0] {
-        comparison.call(rng, call, image, room)?;
+        comparison.call(call, image, room)?;
     }
     Ok(())
 }
@@ -115,16 +115,16 @@ fn damaged(comparison: &mut Comparison, rng: &mut Rng, image: &Image, seed: u64)
 fn each_call(comparison: &mut Comparison, rng: &mut Rng, image: &[u8]) -> Outcome {
     comparison.check(image)?;
     for call in calls(rng) {
-        let room = rng.pick(&[0, 40, image.len(), IMAGE_MAX]);
-        comparison.call(rng, call, image, room)?;
+        let room = rng.pick(&[0, 40, image.len().min(IMAGE_MAX), IMAGE_MAX]);
+        comparison.call(call, image, room)?;
     }
     comparison.record(image, label(rng))
 }
 
 /// Numbers of turns next to the limit.
-fn turn_limit(comparison: &mut Comparison, rng: &mut Rng, image: &[u8]) -> Outcome {
+fn turn_limit(comparison: &mut Comparison, image: &[u8]) -> Outcome {
     for count in [TURNS_MAX - 1, TURNS_MAX, TURNS_MAX + 1] {
-        comparison.call(rng, Call::Turns(count), image, IMAGE_MAX)?;
+        comparison.call(Call::Turns(count), image, IMAGE_MAX)?;
     }
     Ok(())
 }
@@ -144,7 +144,7 @@ fn sweep(comparison: &mut Comparison, rng: &mut Rng) -> Outcome {
             comparison.check(&changed)?;
             let calls = calls(rng);
             let call = rng.pick(&calls);
-            comparison.call(rng, call, &changed, IMAGE_MAX)?;
+            comparison.call(call, &changed, IMAGE_MAX)?;
         }
     }
     Ok(())

@@ -10,6 +10,9 @@ use std::fmt;
 /// Bytes ahead of the output and behind it that no call may touch.
 const AROUND: usize = 32;
 
+/// The longest output: some bytes more than every answer.
+pub const ROOM_MAX: usize = IMAGE_MAX + 8;
+
 /// What a call left: its answer, and the output with the bytes around it.
 struct Made {
     answer: Answer,
@@ -27,25 +30,28 @@ pub struct Agreed {
 pub struct Comparison {
     implementations: [Implementation; 2],
     seed: u64,
+    /// What outputs, and the bytes around them, hold before a call: random bytes, others for each seed.
+    pattern: Vec<u8>,
     pub tally: Tally,
 }
 
 impl Comparison {
     pub fn new(implementations: [Implementation; 2]) -> Comparison {
-        Comparison { implementations, seed: 0, tally: Tally::default() }
+        let pattern = vec![0; AROUND + ROOM_MAX + AROUND];
+        Comparison { implementations, seed: 0, pattern, tally: Tally::default() }
     }
 
-    /// Names the seed that the images and arguments come from.
+    /// Begins with the images and arguments of a seed.
     pub fn begin(&mut self, seed: u64) {
         self.seed = seed;
+        Rng::new(seed).fill(&mut self.pattern);
     }
 
-    /// Makes a call of both with an output of `room` bytes.
-    pub fn call(&mut self, rng: &mut Rng, call: Call, image: &[u8], room: usize) -> Result<Agreed, Mismatch> {
-        let mut before = vec![0; AROUND + room + AROUND];
-        rng.fill(&mut before);
+    /// Makes a call of both with an output of `room` bytes, at most `ROOM_MAX`.
+    pub fn call(&mut self, call: Call, image: &[u8], room: usize) -> Result<Agreed, Mismatch> {
+        let before = &self.pattern[..AROUND + room + AROUND];
         let lent = image.to_vec();
-        let [first, second] = self.implementations.map(|implementation| make(implementation, call, &lent, &before));
+        let [first, second] = self.implementations.map(|implementation| make(implementation, call, &lent, before));
         self.tally.compared += 1;
         let fault = if lent != image {
             Some("the image has changed")
@@ -54,7 +60,7 @@ impl Comparison {
         } else if first.output != second.output {
             Some("different bytes")
         } else {
-            broken_rule(&first, &before)
+            broken_rule(&first, before)
         };
         if let Some(fault) = fault {
             let made = [first, second].map(|made| format!("{:?} {}", made.answer, hex(&made.output[AROUND..])));
@@ -66,7 +72,7 @@ impl Comparison {
     }
 
     /// Has both check an accepted image and write it again, which gives 0 and its own bytes.
-    pub fn accepted(&mut self, rng: &mut Rng, image: &[u8]) -> Result<(), Mismatch> {
+    pub fn accepted(&mut self, image: &[u8]) -> Result<(), Mismatch> {
         let number = self.check(image)?;
         if number != 0 {
             return Err(self.mismatch(
@@ -76,7 +82,7 @@ impl Comparison {
                 [number; 2].map(|n| n.to_string()),
             ));
         }
-        let agreed = self.call(rng, Call::Rewrite, image, IMAGE_MAX)?;
+        let agreed = self.call(Call::Rewrite, image, IMAGE_MAX)?;
         if agreed.answer.number == 0 && agreed.bytes == image {
             return Ok(());
         }
