@@ -1,8 +1,7 @@
 //! Times a call of the monitor beside the same call of the reference, and compares all that they tell and write.
 
 use crate::clock::cpu_time;
-use differential::calls::{Call, Implementation};
-use reference::Answer;
+use differential::calls::{Answer, Call, Implementation};
 use rithennaw::IMAGE_MAX;
 use std::hint::black_box;
 use std::time::Duration;
@@ -64,7 +63,7 @@ mod tests {
     use super::{measure, Answer, Call, Implementation};
     use differential::calls::REFERENCE;
 
-    const ONE_BYTE: Answer = Answer { number: 0, length: 1, busy: 0 };
+    const ONE_BYTE: Answer = Answer { number: 0, length: 1, busy: 0, delivered: false };
 
     fn answering(call: fn(Call, &[u8], &mut [u8]) -> Answer) -> Implementation {
         Implementation { call, ..REFERENCE }
@@ -97,7 +96,7 @@ mod tests {
 
     #[test]
     fn a_call_that_both_refuse_is_a_fault() {
-        let refused = answering(|_, _, _| Answer { number: 3, length: 0, busy: 0 });
+        let refused = answering(|_, _, _| Answer::refused(3));
         assert!(!is_measured(refused, refused));
     }
 }

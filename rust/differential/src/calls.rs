@@ -1,16 +1,57 @@
-//! The calls, and the two that answer them: the monitor through its Rust wrapper, and the reference interpreter.
+//! The calls, what they tell, and the two that answer them: the monitor through its Rust wrapper, and the reference
+//! interpreter.
 
-use reference::Answer;
 use rithennaw::Refusal;
 use std::ops::Range;
 
-/// A call that writes, with its argument.
+/// A message of the host, and the slot that it is posted to.
+#[derive(Debug, Clone, Copy, PartialEq, Eq)]
+pub struct Post {
+    pub slot: u32,
+    pub label: u32,
+    pub value: u32,
+}
+
+/// A call that writes, with its arguments.
 #[derive(Debug, Clone, Copy, PartialEq, Eq)]
 pub enum Call {
     Rewrite,
     Turns(u64),
+    Post(Post),
     View(u32),
     Sheet(u32),
+}
+
+/// What a call that writes tells. Only turns have a busy count, and only a post is delivered.
+#[derive(Debug, Clone, Copy, PartialEq, Eq, Default)]
+pub struct Answer {
+    /// 0 for an accepted call, else the number of its refusal.
+    pub number: u8,
+    /// How many bytes were written.
+    pub length: usize,
+    /// How many turns met a live task.
+    pub busy: u64,
+    /// Whether the message joined the mailbox; else it was dropped.
+    pub delivered: bool,
+}
+
+impl Answer {
+    /// What a refused call tells: its number, 0 and dropped.
+    pub fn refused(number: u8) -> Answer {
+        Answer { number, ..Answer::default() }
+    }
+}
+
+impl From<reference::Answer> for Answer {
+    fn from(told: reference::Answer) -> Answer {
+        Answer { number: told.number, length: told.length, busy: told.busy, delivered: false }
+    }
+}
+
+impl From<reference::PostAnswer> for Answer {
+    fn from(told: reference::PostAnswer) -> Answer {
+        Answer { number: told.number, length: told.length, busy: 0, delivered: told.delivered }
+    }
 }
 
 /// One that answers calls.
@@ -36,24 +77,27 @@ pub const REFERENCE: Implementation =
 pub const BOTH: [Implementation; 2] = [MONITOR, REFERENCE];
 
 fn monitor_call(call: Call, image: &[u8], out: &mut [u8]) -> Answer {
-    let without_busy = |length: usize| (length, 0);
+    let written = |length: usize| Answer { length, ..Answer::default() };
     let told = match call {
-        Call::Rewrite => rithennaw::rewrite_into(image, out).map(without_busy),
-        Call::Turns(count) => rithennaw::turns_into(image, count, out).map(|told| (told.length, told.busy)),
-        Call::View(observer) => rithennaw::view_into(image, observer, out).map(without_busy),
-        Call::Sheet(observer) => rithennaw::sheet_into(image, observer, out).map(without_busy),
+        Call::Rewrite => rithennaw::rewrite_into(image, out).map(written),
+        Call::Turns(count) => {
+            rithennaw::turns_into(image, count, out).map(|told| Answer { busy: told.busy, ..written(told.length) })
+        }
+        Call::Post(Post { slot, label, value }) => rithennaw::post_into(image, slot, label, value, out)
+            .map(|told| Answer { delivered: told.delivered, ..written(told.length) }),
+        Call::View(observer) => rithennaw::view_into(image, observer, out).map(written),
+        Call::Sheet(observer) => rithennaw::sheet_into(image, observer, out).map(written),
     };
-    // The wrapper tells no length and no busy count of a refused call; tests/link sees that the archive's are 0.
-    let number = told.map_or_else(Refusal::number, |_| 0);
-    let (length, busy) = told.unwrap_or_default();
-    Answer { number, length, busy }
+    // The wrapper tells only the number of a refused call; tests/link sees that the archive's other figures are 0.
+    told.unwrap_or_else(|refusal| Answer::refused(refusal.number()))
 }
 
 fn reference_call(call: Call, image: &[u8], out: &mut [u8]) -> Answer {
     match call {
-        Call::Rewrite => reference::rewrite(image, out),
-        Call::Turns(count) => reference::turns(image, count, out),
-        Call::View(observer) => reference::view(image, observer, out),
-        Call::Sheet(observer) => reference::sheet(image, observer, out),
+        Call::Rewrite => reference::rewrite(image, out).into(),
+        Call::Turns(count) => reference::turns(image, count, out).into(),
+        Call::Post(Post { slot, label, value }) => reference::post(image, slot, label, value, out).into(),
+        Call::View(observer) => reference::view(image, observer, out).into(),
+        Call::Sheet(observer) => reference::sheet(image, observer, out).into(),
     }
 }

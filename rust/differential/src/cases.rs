@@ -1,9 +1,11 @@
-//! What is compared for a seed: an accepted image with every call and output, then the image damaged in many ways.
+//! What is compared for a seed: an accepted image with every call and output, again after turns and posts, then the
+//! image damaged in many ways.
 
-use crate::calls::Call;
+use crate::arguments::{self, calls};
+use crate::calls::{Call, Post};
 use crate::compare::{Comparison, ROOM_MAX};
 use crate::damage::{self, FAULTS};
-use crate::images;
+use crate::images::{self, MAIL_PER_LABEL};
 use crate::report::{Fact, Mismatch};
 use crate::rng::Rng;
 use layout::Image;
@@ -22,7 +24,8 @@ pub fn run(comparison: &mut Comparison, seed: u64) -> Outcome {
     let rng = &mut Rng::new(seed);
     let image = images::accepted(rng);
     let after = accepted(comparison, rng, &image.bytes())?;
-    accepted(comparison, rng, &after)?;
+    let posted = posts_in_a_row(comparison, rng, &image.used(), after)?;
+    accepted(comparison, rng, &posted)?;
     damaged(comparison, rng, &image, seed)?;
     if seed % LIMIT_EVERY == 0 {
         turn_limit(comparison, &image.bytes())?;
@@ -33,30 +36,6 @@ pub fn run(comparison: &mut Comparison, seed: u64) -> Outcome {
     Ok(())
 }
 
-/// A number of turns: few, or more than the limit.
-fn count(rng: &mut Rng) -> u64 {
-    match rng.below(16) {
-        0 => rng.pick(&[TURNS_MAX + 1, 1 << 32, u64::MAX]),
-        1 => rng.pick(&[0, 1, 15, 16, 17]),
-        2..=5 => rng.below(40) as u64,
-        6 => rng.below(5_000) as u64,
-        _ => rng.below(600) as u64,
-    }
-}
-
-/// A label, or a number that is none: for an observer or a slot.
-fn label(rng: &mut Rng) -> u32 {
-    match rng.below(10) {
-        0 => rng.pick(&[16, 17, 255, 256, 65_536, u32::MAX - 1, u32::MAX]),
-        _ => rng.below(16) as u32,
-    }
-}
-
-/// The calls that write, each with an argument.
-fn calls(rng: &mut Rng) -> [Call; 4] {
-    [Call::Rewrite, Call::Turns(count(rng)), Call::View(label(rng)), Call::Sheet(label(rng))]
-}
-
 /// Every call of an accepted image with every output, and some records. Gives the image after the turns.
 fn accepted(comparison: &mut Comparison, rng: &mut Rng, image: &[u8]) -> Result<Vec<u8>, Mismatch> {
     comparison.accepted(image)?;
@@ -65,19 +44,36 @@ fn accepted(comparison: &mut Comparison, rng: &mut Rng, image: &[u8]) -> Result<
         let room = rng.between(IMAGE_MAX, ROOM_MAX);
         let agreed = comparison.call(call, image, room)?;
         if agreed.answer.number != 0 {
+            // Refused for its argument, which comes ahead of the output.
+            let room = rng.below(image.len());
+            comparison.call(call, image, room)?;
             continue;
         }
         outputs(comparison, rng, call, image, agreed.answer.length)?;
         match call {
             Call::Turns(_) => after = agreed.bytes,
-            Call::View(_) => comparison.accepted(&agreed.bytes)?,
+            Call::Post(_) | Call::View(_) => comparison.accepted(&agreed.bytes)?,
             Call::Rewrite | Call::Sheet(_) => {}
         }
     }
     for _ in 0..3 {
-        comparison.record(image, label(rng))?;
+        comparison.record(image, arguments::label(rng))?;
     }
     Ok(after)
+}
+
+/// One post more than a mailbox has room for, all of one label to one slot, each to the image that the one before it
+/// gave. Gives the image after them.
+fn posts_in_a_row(
+    comparison: &mut Comparison, rng: &mut Rng, used: &[usize], mut image: Vec<u8>,
+) -> Result<Vec<u8>, Mismatch> {
+    let slot = used.get(rng.below(used.len())).map_or(0, |&slot| slot as u32);
+    let label = rng.below(16) as u32;
+    for _ in 0..=MAIL_PER_LABEL {
+        let post = Post { slot, label, value: images::value(rng) };
+        image = comparison.call(Call::Post(post), &image, IMAGE_MAX)?.bytes;
+    }
+    Ok(image)
 }
 
 /// An accepted call whose answer has that length, with outputs that are long enough and others that are not.
@@ -118,7 +114,7 @@ fn each_call(comparison: &mut Comparison, rng: &mut Rng, image: &[u8]) -> Outcom
         let room = rng.pick(&[0, 40, image.len().min(IMAGE_MAX), IMAGE_MAX]);
         comparison.call(call, image, room)?;
     }
-    comparison.record(image, label(rng))
+    comparison.record(image, arguments::label(rng))
 }
 
 /// Numbers of turns next to the limit.

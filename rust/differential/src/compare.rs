@@ -1,9 +1,9 @@
 //! One call made of two implementations: what they tell, every byte of the output and around it, and the image.
 
-use crate::calls::{Call, Implementation};
+use crate::calls::{Answer, Call, Implementation};
+use crate::posts::{self, PostOutcome};
 use crate::report::{hex, Mismatch, RecordOutcome, Tally};
 use crate::rng::Rng;
-use reference::Answer;
 use rithennaw::IMAGE_MAX;
 use std::fmt;
 
@@ -53,6 +53,7 @@ impl Comparison {
         let lent = image.to_vec();
         let [first, second] = self.implementations.map(|implementation| make(implementation, call, &lent, before));
         self.tally.compared += 1;
+        let posted = post_outcome(call, image, first.answer);
         let fault = if lent != image {
             Some("the image has changed")
         } else if first.answer != second.answer {
@@ -60,13 +61,14 @@ impl Comparison {
         } else if first.output != second.output {
             Some("different bytes")
         } else {
-            broken_rule(&first, before)
+            broken_rule(&first, before, posted)
         };
         if let Some(fault) = fault {
             let made = [first, second].map(|made| format!("{:?} {}", made.answer, hex(&made.output[AROUND..])));
             return Err(self.mismatch(fault, &format!("{call:?}, output of {room} bytes"), image, made));
         }
         self.tally.call(call, first.answer);
+        posted.into_iter().for_each(|outcome| self.tally.post(outcome));
         let bytes = first.output[AROUND..][..first.answer.length].to_vec();
         Ok(Agreed { answer: first.answer, bytes })
     }
@@ -141,13 +143,25 @@ fn make(implementation: Implementation, call: Call, image: &[u8], before: &[u8])
     Made { answer, output }
 }
 
-/// The rule of the scope document that both broke alike, if one: a refused call tells 0 and writes nothing, and an
-/// accepted one writes only the bytes of its answer.
-fn broken_rule(made: &Made, before: &[u8]) -> Option<&'static str> {
-    let Answer { number, length, busy } = made.answer;
+/// What should become of a post that is accepted; none for other calls.
+fn post_outcome(call: Call, image: &[u8], answer: Answer) -> Option<PostOutcome> {
+    match call {
+        Call::Post(post) if answer.number == 0 => {
+            Some(posts::outcome(&image[reference::record(image, post.slot)], post.label))
+        }
+        _ => None,
+    }
+}
+
+/// The rule of the papers that both broke alike, if one: a refused call tells 0 and dropped and writes nothing, an
+/// accepted one writes only the bytes of its answer, and it is a post that delivers, wherever nothing is in its way.
+fn broken_rule(made: &Made, before: &[u8], posted: Option<PostOutcome>) -> Option<&'static str> {
+    let Answer { number, length, delivered, .. } = made.answer;
     let room = made.output.len() - 2 * AROUND;
-    if number != 0 && (length, busy) != (0, 0) {
-        Some("a refused call tells a length or a busy count")
+    if number != 0 && made.answer != Answer::refused(number) {
+        Some("a refused call tells a length, a busy count or a delivery")
+    } else if delivered != (posted == Some(PostOutcome::Delivered)) {
+        Some("a message is delivered or dropped without cause")
     } else if length > room {
         Some("the answer is longer than the output")
     } else if made.output[..AROUND] != before[..AROUND] || made.output[AROUND + length..] != before[AROUND + length..] {

@@ -2,6 +2,7 @@
 
 #![forbid(unsafe_code)]
 
+pub mod arguments;
 pub mod calls;
 pub mod cases;
 pub mod compare;
@@ -9,6 +10,7 @@ pub mod damage;
 pub mod images;
 pub mod instructions;
 pub mod pairs;
+pub mod posts;
 pub mod programs;
 pub mod report;
 pub mod rng;

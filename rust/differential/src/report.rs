@@ -1,26 +1,33 @@
 //! What was compared, by call and number: the table that is printed, and the least that there must be.
 
-use crate::calls::Call;
-use reference::Answer;
+use crate::calls::{Answer, Call, Post};
+use crate::posts::PostOutcome;
 use std::fmt;
 
 /// The least number of calls in a run.
 const CALLS_MIN: u64 = 200_000;
 
-/// The least number of calls with each number that a call may tell, and of records with each outcome.
+/// The least number of calls with each number that a call may tell, and of records and posts with each outcome.
 const EACH_MIN: u64 = 100;
 
 /// A call with at least so many busy turns is a long run.
 const LONG_RUN: u64 = 100_000;
 
 /// The calls that tell a number, with those that each may tell beside 0 and 3 to 12.
-const CALLS: [(&str, &[usize]); 5] =
-    [("rewrite", &[13]), ("turns", &[2, 13]), ("view", &[1, 13]), ("sheet", &[1, 13]), ("check", &[])];
+const CALLS: [(&str, &[usize]); 6] = [
+    ("rewrite", &[13]),
+    ("turns", &[2, 13]),
+    ("post", &[13, 14, 15]),
+    ("view", &[1, 13]),
+    ("sheet", &[1, 13]),
+    ("check", &[]),
+];
 
-/// The row of `check`, which is no call that writes; those of the others are in the order of `Call`.
-const CHECK: usize = 4;
+/// The place of `check`, which is no call that writes; those of the others are in the order of `Call`.
+const CHECK: usize = 5;
 
-const NUMBERS: usize = 14;
+/// The numbers that there are: 0 to 15.
+pub const NUMBERS: usize = 16;
 
 /// A difference: all that is known of it.
 #[derive(Debug)]
@@ -43,10 +50,11 @@ pub enum Fact {
     LongRun,
     JustEnough,
     ByteTooShort,
+    SlotAndLabelAbove15,
 }
 
 /// The words for each fact, and the least number of calls of which it holds.
-const FACTS: [(&str, u64); 8] = [
+const FACTS: [(&str, u64); 9] = [
     ("0 turns", 100),
     ("1 to 16 turns", 100),
     ("17 to 999 turns", 100),
@@ -55,6 +63,7 @@ const FACTS: [(&str, u64); 8] = [
     ("100,000 or more busy turns", 20),
     ("output just long enough", 100),
     ("output a byte too short", 100),
+    ("post with slot and label above 15", 100),
 ];
 
 /// What a record's part was, and why it was empty.
@@ -66,13 +75,18 @@ pub enum RecordOutcome {
     RefusedImage,
 }
 
-const OUTCOMES: [&str; 4] = ["found", "unused slot", "slot above 15", "refused image"];
+const RECORD_OUTCOMES: [&str; 4] = ["found", "unused slot", "slot above 15", "refused image"];
+
+/// The words for each `PostOutcome`.
+const POST_OUTCOMES: [&str; 4] =
+    ["delivered", "dropped at an unused slot", "dropped at a stopped task", "dropped behind four of its label"];
 
 /// Counts of the calls that were compared.
 #[derive(Default)]
 pub struct Tally {
     calls: [[u64; NUMBERS]; CALLS.len()],
-    records: [u64; OUTCOMES.len()],
+    records: [u64; RECORD_OUTCOMES.len()],
+    posts: [u64; POST_OUTCOMES.len()],
     facts: [u64; FACTS.len()],
     /// All calls that were compared, those that differ included.
     pub compared: u64,
@@ -84,18 +98,21 @@ impl Tally {
         let row = match call {
             Call::Rewrite => 0,
             Call::Turns(_) => 1,
-            Call::View(_) => 2,
-            Call::Sheet(_) => 3,
+            Call::Post(_) => 2,
+            Call::View(_) => 3,
+            Call::Sheet(_) => 4,
         };
         self.calls[row][usize::from(answer.number)] += 1;
-        if let (Call::Turns(count), 0) = (call, answer.number) {
-            self.fact(match count {
+        match (call, answer.number) {
+            (Call::Turns(count), 0) => self.fact(match count {
                 0 => Fact::NoTurns,
                 1..=16 => Fact::OneRound,
                 17..=999 => Fact::Rounds,
                 1_000..=999_998 => Fact::ManyRounds,
                 _ => Fact::MostTurns,
-            });
+            }),
+            (Call::Post(Post { slot: 16.., label: 16.., .. }), _) => self.fact(Fact::SlotAndLabelAbove15),
+            _ => {}
         }
         if answer.busy >= LONG_RUN {
             self.fact(Fact::LongRun);
@@ -117,6 +134,11 @@ impl Tally {
         self.records[outcome as usize] += 1;
     }
 
+    /// Counts an accepted post on which the two agreed.
+    pub fn post(&mut self, outcome: PostOutcome) {
+        self.posts[outcome as usize] += 1;
+    }
+
     /// What is missing for the run to count, or is there and may not be.
     pub fn shortfalls(&self) -> Vec<String> {
         let total = (self.compared < CALLS_MIN).then(|| format!("fewer than {CALLS_MIN} calls"));
@@ -131,29 +153,43 @@ impl Tally {
                 }
             })
         });
-        let records = OUTCOMES.iter().zip(self.records).filter(|&(_, count)| count < EACH_MIN);
-        let records = records.map(|(name, _)| format!("record, {name}: fewer than {EACH_MIN} calls"));
-        total.into_iter().chain(facts).chain(cells).chain(records).collect()
+        let records = few("record", &RECORD_OUTCOMES, &self.records);
+        let posts = few("post", &POST_OUTCOMES, &self.posts);
+        total.into_iter().chain(facts).chain(cells).chain(records).chain(posts).collect()
     }
+}
+
+/// The outcomes of a call that came too seldom.
+fn few<'a>(call: &'a str, outcomes: &'a [&str], counts: &'a [u64]) -> impl Iterator<Item = String> + 'a {
+    let seldom = outcomes.iter().zip(counts).filter(|&(_, &count)| count < EACH_MIN);
+    seldom.map(move |(outcome, _)| format!("{call}, {outcome}: fewer than {EACH_MIN} calls"))
 }
 
 impl fmt::Display for Tally {
     fn fmt(&self, f: &mut fmt::Formatter<'_>) -> fmt::Result {
-        write!(f, "{:8}", "number")?;
-        (0..NUMBERS).try_for_each(|number| write!(f, "{number:>8}"))?;
-        for ((name, _), counts) in CALLS.iter().zip(&self.calls) {
-            write!(f, "\n{name:8}")?;
-            counts.iter().try_for_each(|count| write!(f, "{count:>8}"))?;
+        write!(f, "number")?;
+        CALLS.iter().try_for_each(|(name, _)| write!(f, "{name:>9}"))?;
+        for number in 0..NUMBERS {
+            write!(f, "\n{number:>6}")?;
+            self.calls.iter().try_for_each(|counts| write!(f, "{:>9}", counts[number]))?;
         }
-        write!(f, "\nrecord: {}", list(&OUTCOMES, &self.records))?;
+        write!(f, "\nrecord: {}", list(&RECORD_OUTCOMES, &self.records))?;
+        write!(f, "\npost: {}", list(&POST_OUTCOMES, &self.posts))?;
         write!(f, "\nof these: {}", list(&FACTS.map(|(name, _)| name), &self.facts))
     }
 }
 
-/// Names with their counts.
+/// Names with their counts, in lines of up to 100 characters.
 pub fn list(names: &[&str], counts: &[u64]) -> String {
-    let items: Vec<String> = names.iter().zip(counts).map(|(name, count)| format!("{name} {count}")).collect();
-    items.join(", ")
+    let mut lines: Vec<String> = Vec::new();
+    for (name, count) in names.iter().zip(counts) {
+        let item = format!("{name} {count}");
+        match lines.last_mut().filter(|line| line.len() + item.len() < 98) {
+            Some(line) => *line += &format!(", {item}"),
+            None => lines.push(item),
+        }
+    }
+    lines.join(",\n    ")
 }
 
 /// The bytes in hexadecimal.

@@ -2,7 +2,7 @@
 
 use crate::damage::FAULTS;
 use crate::images;
-use crate::report::{hex, Mismatch};
+use crate::report::{hex, Mismatch, NUMBERS};
 use crate::rng::Rng;
 use std::ffi::OsStr;
 use std::fmt;
@@ -24,7 +24,7 @@ const REFUSALS: [usize; 11] = [1, 3, 4, 5, 6, 7, 8, 9, 10, 11, 12];
 
 /// Counts of the inputs by the number printed; 0 where it was a sheet.
 #[derive(Default)]
-pub struct SlotsheetTally([u64; 14]);
+pub struct SlotsheetTally([u64; NUMBERS]);
 
 /// Every input.
 pub fn inputs() -> impl Iterator<Item = Vec<u8>> {

@@ -1,10 +1,9 @@
 //! Wrong implementations, each wrong in one thing, are found.
 
-use differential::calls::{Call, Implementation, MONITOR, REFERENCE};
+use differential::calls::{Answer, Call, Implementation, MONITOR, REFERENCE};
 use differential::compare::Comparison;
 use differential::secrecy_report::SecrecyTally;
 use differential::{cases, secrecy};
-use reference::Answer;
 use rithennaw::IMAGE_MIN;
 
 const SEEDS: u64 = 100;
@@ -83,7 +82,7 @@ fn a_byte_that_both_write_behind_the_answer() {
 
 #[test]
 fn an_accepted_image_that_both_refuse() {
-    let both = wrong(|_, _, _| Answer { number: 3, length: 0, busy: 0 });
+    let both = wrong(|_, _, _| Answer::refused(3));
     let report = difference([both, both]).expect("a difference");
     assert!(report.starts_with("an accepted image is not given back"), "{report}");
 }
@@ -167,7 +166,7 @@ fn turns_that_are_not_carried_out_when_tasks_are_busy() {
 #[test]
 fn images_that_are_refused_at_the_end() {
     not_secret(wrong(|call, image, out| match call {
-        Call::Turns(1..=1_000_000) => Answer { number: 0, length: 0, busy: 0 },
+        Call::Turns(1..=1_000_000) => Answer::default(),
         _ => right(call, image, out),
     }));
 }

@@ -7,14 +7,24 @@ fn differential(arguments: &[&str]) -> Output {
     Command::new(env!("CARGO_BIN_EXE_differential")).args(arguments).output().unwrap()
 }
 
-/// The calls in the printed counts: a line for each call that tells a number, and one of records, with commas.
+/// The calls in the printed counts: a line for each number, with a count for each call that may tell one, and a line of
+/// records, with commas.
 fn calls(printed: &str) -> u64 {
-    let counts = printed.lines().flat_map(|line| match line.split_once(' ') {
-        Some(("rewrite" | "turns" | "view" | "sheet" | "check", counts)) => counts.split_whitespace().collect(),
-        Some(("record:", counts)) => counts.split(", ").filter_map(|count| count.rsplit(' ').next()).collect(),
-        _ => vec![],
-    });
-    counts.map(|count| count.parse::<u64>().unwrap()).sum()
+    let mut lines = printed.lines();
+    let heading = lines.next().unwrap_or_default();
+    assert!(
+        heading.split_whitespace().eq(["number", "rewrite", "turns", "post", "view", "sheet", "check"]),
+        "{heading}"
+    );
+    let mut counts = Vec::new();
+    for number in 0..=15 {
+        let mut line = lines.next().unwrap_or_default().split_whitespace();
+        assert_eq!(line.next(), Some(number.to_string().as_str()));
+        counts.extend(line);
+    }
+    let records = lines.next().and_then(|line| line.strip_prefix("record: ")).unwrap_or_default();
+    counts.extend(records.split(", ").filter_map(|count| count.rsplit(' ').next()));
+    counts.iter().map(|count| count.parse::<u64>().unwrap()).sum()
 }
 
 #[test]
