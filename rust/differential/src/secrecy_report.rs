@@ -6,28 +6,46 @@ use std::fmt;
 /// The observers: 0 to 15.
 pub const OBSERVERS: usize = 16;
 
-/// The least number of trials for each observer, and of trials of which each fact holds.
+/// The least number of trials for each observer.
 const OBSERVER_MIN: u64 = 200;
-const FACT_MIN: u64 = 2_000;
 
-/// What was seen of a pair in a trial.
-pub struct Seen {
-    pub images_differ: bool,
-    pub lists_differ: bool,
-    pub calls_refused: bool,
-    pub hidden_task_ran: bool,
-    pub visible_task_ran: bool,
-    pub busy_counts_differ: bool,
+/// What is counted of trials whose images differ at the start. A post is visible where its label flows to the observer.
+#[derive(Debug, Clone, Copy)]
+pub enum Fact {
+    ImagesDiffer,
+    ListsDiffer,
+    CallRefused,
+    PostRefused,
+    HiddenTaskRan,
+    BothRan,
+    BusyCountsDiffer,
+    VisibleDelivered,
+    VisibleToUnusedSlot,
+    VisibleToStoppedTask,
+    VisibleBehindFour,
+    VisibleToHiddenTask,
+    VisibleDeliveriesDiffer,
+    HiddenPostsDiffer,
+    HiddenToVisibleTask,
 }
 
-/// The facts that are counted, each of trials whose images differ at the start.
-const FACTS: [&str; 6] = [
-    "images differ at the start",
-    "lists differ",
-    "calls refused",
-    "hidden task ran",
-    "visible and hidden tasks ran",
-    "busy counts differ",
+/// The words for each fact, and the least number of trials of which it holds.
+const FACTS: [(&str, u64); 15] = [
+    ("images differ at the start", 2_000),
+    ("lists differ", 2_000),
+    ("calls refused", 2_000),
+    ("posts refused", 2_000),
+    ("hidden task ran", 2_000),
+    ("visible and hidden tasks ran", 2_000),
+    ("busy counts differ", 2_000),
+    ("visible post delivered", 2_000),
+    ("visible post to an unused slot", 2_000),
+    ("visible post to a stopped task", 2_000),
+    ("visible post behind four of its label", 2_000),
+    ("visible post to a hidden task", 2_000),
+    ("visible post delivered in one list only", 1_000),
+    ("hidden posts differ", 2_000),
+    ("hidden post to a visible task", 2_000),
 ];
 
 /// Counts of trials, for each observer and by what was seen in them. A trial is a pair tried on one implementation.
@@ -38,20 +56,10 @@ pub struct SecrecyTally {
 }
 
 impl SecrecyTally {
-    /// Counts a trial.
-    pub fn trial(&mut self, observer: u8, seen: &Seen) {
+    /// Counts a trial of which these facts hold.
+    pub fn trial(&mut self, observer: u8, facts: &[Fact]) {
         self.trials[usize::from(observer)] += 1;
-        let facts = [
-            true,
-            seen.lists_differ,
-            seen.calls_refused,
-            seen.hidden_task_ran,
-            seen.visible_task_ran && seen.hidden_task_ran,
-            seen.busy_counts_differ,
-        ];
-        for (count, fact) in self.facts.iter_mut().zip(facts) {
-            *count += u64::from(seen.images_differ && fact);
-        }
+        facts.iter().for_each(|&fact| self.facts[fact as usize] += 1);
     }
 
     /// What is missing for the run to count.
@@ -59,14 +67,14 @@ impl SecrecyTally {
         let observers = (0..OBSERVERS).filter(|&observer| self.trials[observer] < OBSERVER_MIN);
         let observers =
             observers.map(|observer| format!("secrecy, observer {observer}: fewer than {OBSERVER_MIN} trials"));
-        let facts = FACTS.iter().zip(self.facts).filter(|&(_, count)| count < FACT_MIN);
-        observers.chain(facts.map(|(name, _)| format!("secrecy, {name}: fewer than {FACT_MIN} trials"))).collect()
+        let facts = FACTS.iter().zip(self.facts).filter(|&((_, least), count)| count < *least);
+        observers.chain(facts.map(|((name, least), _)| format!("secrecy, {name}: fewer than {least} trials"))).collect()
     }
 }
 
 impl fmt::Display for SecrecyTally {
     fn fmt(&self, f: &mut fmt::Formatter<'_>) -> fmt::Result {
         let total: u64 = self.trials.iter().sum();
-        write!(f, "secrecy: {} in {total} trials", list(&FACTS, &self.facts))
+        write!(f, "secrecy: {} in {total} trials", list(&FACTS.map(|(name, _)| name), &self.facts))
     }
 }

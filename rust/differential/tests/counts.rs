@@ -10,8 +10,8 @@ fn a_run_without_calls_lacks_every_count() {
     // All calls, and nine facts; 0 and 3 to 12 for each of six calls, 13 for the five that write, 2 for turns, 1 for
     // view and sheet, 14 and 15 for post; four outcomes of record and four of post.
     assert_eq!(Tally::default().shortfalls().len(), 1 + 9 + 6 * 11 + 5 + 1 + 2 + 2 + 4 + 4);
-    // The observers 0 to 15 and the six facts.
-    assert_eq!(SecrecyTally::default().shortfalls().len(), 16 + 6);
+    // The observers 0 to 15 and the fifteen facts.
+    assert_eq!(SecrecyTally::default().shortfalls().len(), 16 + 15);
     // Sheets, and the refusals 1 and 3 to 12.
     assert_eq!(SlotsheetTally::default().shortfalls().len(), 1 + 11);
 }

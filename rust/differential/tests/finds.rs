@@ -1,21 +1,12 @@
-//! Wrong implementations, each wrong in one thing, are found.
+//! Wrong implementations, each wrong in one thing, are found by comparing calls.
 
-use differential::calls::{Answer, Call, Implementation, MONITOR, REFERENCE};
+mod wrong;
+
+use differential::calls::{Answer, Implementation, MONITOR, REFERENCE};
+use differential::cases;
 use differential::compare::Comparison;
-use differential::secrecy_report::SecrecyTally;
-use differential::{cases, secrecy};
 use rithennaw::IMAGE_MIN;
-
-const SEEDS: u64 = 100;
-
-/// The reference interpreter with another way to answer calls.
-fn wrong(call: fn(Call, &[u8], &mut [u8]) -> Answer) -> Implementation {
-    Implementation { name: "wrong", call, ..REFERENCE }
-}
-
-fn right(call: Call, image: &[u8], out: &mut [u8]) -> Answer {
-    (REFERENCE.call)(call, image, out)
-}
+use wrong::{common_limit, post_and_turn, right, wrong, SEEDS};
 
 /// The first difference, as it is reported.
 fn difference(implementations: [Implementation; 2]) -> Option<String> {
@@ -132,41 +123,12 @@ fn a_record_that_starts_elsewhere() {
     });
 }
 
-/// A trial of the secrecy rule on that implementation alone fails.
-fn not_secret(wrong: Implementation) {
-    let mut tally = SecrecyTally::default();
-    let report = (0..SEEDS).find_map(|seed| secrecy::run(&mut tally, &[wrong], seed).err()).expect("a difference");
-    assert!(report.to_string().starts_with("secrecy of the wrong: "), "{report}");
+#[test]
+fn a_full_mailbox_counted_over_all_labels() {
+    found(common_limit());
 }
 
 #[test]
-fn a_view_that_shows_everything() {
-    not_secret(wrong(|call, image, out| match call {
-        Call::View(0..=15) => right(Call::Rewrite, image, out),
-        _ => right(call, image, out),
-    }));
-}
-
-#[test]
-fn a_view_that_shows_a_label_too_much() {
-    not_secret(wrong(|call, image, out| match call {
-        Call::View(observer @ 0..=14) => right(Call::View(observer + 1), image, out),
-        _ => right(call, image, out),
-    }));
-}
-
-#[test]
-fn turns_that_are_not_carried_out_when_tasks_are_busy() {
-    not_secret(wrong(|call, image, out| match right(call, image, out) {
-        answer if matches!(call, Call::Turns(_)) && answer.busy > 20 => right(Call::Turns(0), image, out),
-        answer => answer,
-    }));
-}
-
-#[test]
-fn images_that_are_refused_at_the_end() {
-    not_secret(wrong(|call, image, out| match call {
-        Call::Turns(1..=1_000_000) => Answer::default(),
-        _ => right(call, image, out),
-    }));
+fn a_post_that_runs_a_turn() {
+    found(post_and_turn());
 }

@@ -1,9 +1,10 @@
 //! The made-up images are what they are made for: accepted ones, ones with a fault that leads to its number, and
-//! tasks that do what tasks may do.
+//! tasks that do what tasks may do. So are the lists of calls for the secrecy rule.
 
-use differential::calls::BOTH;
+use differential::calls::{Call, BOTH};
 use differential::damage::FAULTS;
 use differential::images;
+use differential::lists::{self, Plan, Step};
 use differential::rng::Rng;
 use layout::instructions::TABLE;
 use layout::{Image, SLOTS};
@@ -67,6 +68,14 @@ fn messages_are_from_every_slot_and_from_the_host() {
     assert!(counts.iter().all(|&count| count >= 100), "{counts:?}");
 }
 
+/// Each of these came at least 50 times.
+fn assert_often(expected: &[&str], events: &[String]) {
+    for event in expected {
+        let count = events.iter().filter(|other| other == event).count();
+        assert!(count >= 50, "{event}: {count} times");
+    }
+}
+
 /// What became of a task in some turns, by its record before and after them.
 fn events(before: &[u8], after: &[u8]) -> Vec<String> {
     let mut events = Vec::new();
@@ -99,8 +108,40 @@ fn tasks_stop_in_every_way_raise_send_take_and_make_tasks() {
         let after = turns(&before, 600).expect("an accepted image").image;
         (0..SLOTS as u32).for_each(|slot| all.extend(events(record(&before, slot), record(&after, slot))));
     }
-    for event in ["kind 2", "kind 3", "kind 4", "kind 5", "made", "raised", "received", "took"] {
-        let count = all.iter().filter(|&other| other == event).count();
-        assert!(count >= 50, "{event}: {count} times");
+    assert_often(&["kind 2", "kind 3", "kind 4", "kind 5", "made", "raised", "received", "took"], &all);
+}
+
+/// When the posts of a plan come, and what the calls of a list are and tell.
+fn list_events(plan: &Plan, list: &[Step]) -> Vec<String> {
+    let times = plan.posts.iter().map(|posted| match posted.turns {
+        0 => "post ahead of the first turn".to_string(),
+        turns if turns == plan.turns => "post behind the last turn".to_string(),
+        _ => "post between turns".to_string(),
+    });
+    let together =
+        plan.posts.windows(2).filter(|two| two[0].turns == two[1].turns).map(|_| "posts together".to_string());
+    let calls = list.iter().map(|step| match step.call {
+        Call::Turns(_) => format!("turns told {}", step.number()),
+        Call::Post(_) => format!("post told {}", step.number()),
+        other => panic!("{other:?} in a list"),
+    });
+    times.chain(together).chain(calls).collect()
+}
+
+#[test]
+fn lists_have_posts_at_any_time_and_calls_that_are_refused() {
+    let mut all = Vec::new();
+    for seed in 0..500 {
+        let rng = &mut Rng::new(seed);
+        let observer = rng.byte_below(16);
+        let plan = lists::plan(rng, observer, 0);
+        let list = lists::list(rng, &plan, observer);
+        all.extend(list_events(&plan, &list));
     }
+    assert_often(
+        &["post ahead of the first turn", "post between turns", "post behind the last turn", "posts together"],
+        &all,
+    );
+    assert_often(&["turns told 0", "turns told 2", "turns told 13"], &all);
+    assert_often(&["post told 0", "post told 13", "post told 14", "post told 15"], &all);
 }

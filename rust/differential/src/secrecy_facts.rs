@@ -1,0 +1,69 @@
+//! What a trial of the secrecy rule was tried on: the facts that are counted.
+
+use crate::calls::Call;
+use crate::lists::Step;
+use crate::posts::PostOutcome;
+use crate::runs::{End, Posted};
+use crate::secrecy::{posts_at, Trial};
+use crate::secrecy_report::Fact;
+use layout::TASK_LENGTH;
+
+impl Trial<'_> {
+    /// The facts that hold of the trial with these ends; none where the images are the same at the start.
+    pub fn facts(&self, ends: &[End; 2]) -> Vec<Fact> {
+        let [first, second] = self.runs;
+        let differ = first.start != second.start;
+        let facts = self.list_facts(ends).into_iter().chain(self.post_facts(ends));
+        facts.filter(|&(_, holds)| differ && holds).map(|(fact, _)| fact).collect()
+    }
+
+    /// Of the images and lists.
+    fn list_facts(&self, ends: &[End; 2]) -> [(Fact, bool); 7] {
+        let [first, second] = self.runs;
+        let refused: Vec<&Step> = first.list.iter().chain(&second.list).filter(|step| step.number() != 0).collect();
+        let ran: Vec<u8> = self.runs.iter().zip(ends).flat_map(|(run, end)| self.ran(&run.start, &end.image)).collect();
+        let [hidden_ran, visible_ran] = [false, true].map(|seen| ran.iter().any(|&label| self.sees(label) == seen));
+        [
+            (Fact::ImagesDiffer, first.start != second.start),
+            (Fact::ListsDiffer, first.list != second.list),
+            (Fact::CallRefused, !refused.is_empty()),
+            (Fact::PostRefused, refused.iter().any(|step| matches!(step.call, Call::Post(_)))),
+            (Fact::HiddenTaskRan, hidden_ran),
+            (Fact::BothRan, hidden_ran && visible_ran),
+            (Fact::BusyCountsDiffer, ends[0].busy != ends[1].busy),
+        ]
+    }
+
+    /// Of the accepted posts.
+    fn post_facts(&self, ends: &[End; 2]) -> [(Fact, bool); 8] {
+        let visible = ends.each_ref().map(|end| self.posts(end, true));
+        let hidden = ends.each_ref().map(|end| self.posts(end, false));
+        let some = |outcome| visible.iter().flatten().any(|posted| posted.outcome == outcome);
+        let met = |posts: &[Vec<&Posted>; 2], seen: bool| {
+            posts.iter().flatten().filter_map(|posted| posted.met).any(|label| self.sees(label) == seen)
+        };
+        let delivered = visible
+            .each_ref()
+            .map(|posts| posts.iter().map(|posted| posted.outcome == PostOutcome::Delivered).collect::<Vec<bool>>());
+        [
+            (Fact::VisibleDelivered, some(PostOutcome::Delivered)),
+            (Fact::VisibleToUnusedSlot, some(PostOutcome::UnusedSlot)),
+            (Fact::VisibleToStoppedTask, some(PostOutcome::StoppedTask)),
+            (Fact::VisibleBehindFour, some(PostOutcome::FourOfLabel)),
+            (Fact::VisibleToHiddenTask, met(&visible, false)),
+            (Fact::VisibleDeliveriesDiffer, delivered[0] != delivered[1]),
+            (Fact::HiddenPostsDiffer, posts_at(&hidden[0]) != posts_at(&hidden[1])),
+            (Fact::HiddenToVisibleTask, met(&hidden, true)),
+        ]
+    }
+
+    /// The labels at the start of the tasks that are others at the end, their mail aside.
+    fn ran(&self, start: &[u8], end: &[u8]) -> Vec<u8> {
+        let task = |image: &[u8], slot| {
+            let part = (self.implementation.record)(image, slot);
+            image[part].iter().copied().take(TASK_LENGTH).collect::<Vec<u8>>()
+        };
+        let tasks = (0..16).map(|slot| (task(start, slot), task(end, slot)));
+        tasks.filter(|(before, after)| before != after).filter_map(|(before, _)| before.get(1).copied()).collect()
+    }
+}
