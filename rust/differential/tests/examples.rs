@@ -1,6 +1,7 @@
-//! The scope document's checked examples, with both implementations and the values that it gives.
+//! The scope document's checked examples, with both implementations and the values that it gives; and posts, by the
+//! words of U1.
 
-use differential::calls::{Call, Implementation, BOTH};
+use differential::calls::{Answer, Call, Implementation, Post, BOTH};
 use layout::{Image, Message, Task};
 
 /// A live task with label 0, no spare, no mail and registers 0.
@@ -234,4 +235,81 @@ fn the_sheet_of_p2_for_observer_0() {
     both_give(Call::Sheet(0), &p2(), Ok((sheet.to_vec(), 0)));
     assert_eq!(reference::slotsheet(&[vec![0], p2().bytes()].concat()), sheet);
     assert_eq!(reference::slotsheet(&[]), b"refused 3\n");
+}
+
+/// Both implementations tell of that post that its message was delivered or dropped, and write `after`.
+fn post_gives(image: &Image, post: Post, after: &Image, delivered: bool) {
+    let told = Answer { length: after.bytes().len(), delivered, ..Answer::default() };
+    for implementation in BOTH {
+        let mut out = vec![0; rithennaw::IMAGE_MAX];
+        let answer = (implementation.call)(Call::Post(post), &image.bytes(), &mut out);
+        assert_eq!(answer, told, "{post:?} of the {}", implementation.name);
+        assert_eq!(out[..answer.length], after.bytes(), "{post:?} of the {}", implementation.name);
+    }
+}
+
+/// A message from the host.
+fn from_host(label: u8, value: u32) -> Message {
+    Message { label, sender: 16, value }
+}
+
+#[test]
+fn a_post_joins_the_end_of_a_mailbox_whatever_the_tasks_label() {
+    let mut image = b();
+    image.task(5).mail = messages(3, 9, 2);
+    for label in 0..16 {
+        let mut after = image.clone();
+        after.task(5).mail.push(from_host(label, 4_000_000_000));
+        post_gives(&image, Post { slot: 5, label: label.into(), value: 4_000_000_000 }, &after, true);
+    }
+}
+
+#[test]
+fn a_posted_message_is_taken_with_sender_16() {
+    let mut image = b();
+    image.turn_slot = 5;
+    let mut posted = image.clone();
+    posted.task(5).mail.push(from_host(0, 700));
+    post_gives(&image, Post { slot: 5, label: 0, value: 700 }, &posted, true);
+    let mut after = Image { turn_slot: 6, ..image };
+    after.slots[5] = Some(Task { registers: [0, 0, 0, 700, 16, 0, 0, 0], ..live(3) });
+    turns_give(&posted, 1, &after, 1);
+}
+
+#[test]
+fn a_post_is_dropped_at_unused_slots_and_stopped_tasks_and_behind_four_of_its_label() {
+    let mut image = b();
+    post_gives(&image, Post { slot: 4, label: 0, value: 1 }, &image, false);
+    for kind in 2..=5 {
+        image.task(5).kind = kind;
+        post_gives(&image, Post { slot: 5, label: 0, value: 1 }, &image, false);
+    }
+    image.task(5).kind = 1;
+    image.task(5).mail = messages(2, 9, 4);
+    post_gives(&image, Post { slot: 5, label: 2, value: 1 }, &image, false);
+    let mut after = image.clone();
+    after.task(5).mail.push(from_host(0, 1));
+    post_gives(&image, Post { slot: 5, label: 0, value: 1 }, &after, true);
+}
+
+#[test]
+fn slots_above_15_are_refused_with_14_then_labels_with_15_both_ahead_of_the_image() {
+    let no_image = Image { cut: Some(0), ..b() };
+    for image in [b(), no_image] {
+        for above in [16, 17, 255, 256, u32::MAX] {
+            both_give(Call::Post(Post { slot: above, label: 0, value: 0 }), &image, Err(14));
+            both_give(Call::Post(Post { slot: above, label: above, value: 0 }), &image, Err(14));
+            both_give(Call::Post(Post { slot: 5, label: above, value: 0 }), &image, Err(15));
+        }
+    }
+    both_give(Call::Post(Post { slot: 15, label: 15, value: 0 }), &Image { cut: Some(0), ..b() }, Err(3));
+}
+
+#[test]
+fn sender_16_is_accepted_and_17_refused_with_10() {
+    let mut image = b();
+    image.task(5).mail = vec![from_host(0, 1)];
+    accepted(&image);
+    image.task(5).mail = vec![Message { sender: 17, ..from_host(0, 1) }];
+    refused(&image, 10);
 }

@@ -2,9 +2,10 @@
 
 mod wrong;
 
-use differential::calls::{Answer, Implementation, MONITOR, REFERENCE};
+use differential::calls::{Answer, Call, Implementation, Post, MONITOR, REFERENCE};
 use differential::cases;
 use differential::compare::Comparison;
+use layout::{MESSAGE_LENGTH, TASK_LENGTH};
 use rithennaw::IMAGE_MIN;
 use wrong::{common_limit, post_and_turn, right, wrong, SEEDS};
 
@@ -124,6 +125,46 @@ fn a_record_that_starts_elsewhere() {
 }
 
 #[test]
+fn a_post_with_sender_15() {
+    found(wrong(|call, image, out| {
+        let answer = right(call, image, out);
+        if let (Call::Post(post), true) = (call, answer.delivered) {
+            let behind = reference::record(&out[..answer.length], post.slot).end;
+            out[behind - MESSAGE_LENGTH + 1] = 15;
+        }
+        answer
+    }));
+}
+
+#[test]
+fn a_post_ahead_of_the_other_messages() {
+    found(wrong(|call, image, out| {
+        let answer = right(call, image, out);
+        if let (Call::Post(post), true) = (call, answer.delivered) {
+            let record = reference::record(&out[..answer.length], post.slot);
+            out[record][TASK_LENGTH..].rotate_right(MESSAGE_LENGTH);
+        }
+        answer
+    }));
+}
+
+#[test]
+fn a_post_into_a_stopped_task() {
+    found(wrong(|call, image, out| match call {
+        Call::Post(post) if !reference::record(image, post.slot).is_empty() => {
+            // A live task, for as long as the post takes.
+            let at = reference::record(image, post.slot).start;
+            let mut live = image.to_vec();
+            live[at] = 1;
+            let answer = right(call, &live, out);
+            out[..answer.length].iter_mut().skip(at).take(1).for_each(|kind| *kind = image[at]);
+            answer
+        }
+        _ => right(call, image, out),
+    }));
+}
+
+#[test]
 fn a_full_mailbox_counted_over_all_labels() {
     found(common_limit());
 }
@@ -131,4 +172,119 @@ fn a_full_mailbox_counted_over_all_labels() {
 #[test]
 fn a_post_that_runs_a_turn() {
     found(post_and_turn());
+}
+
+#[test]
+fn delivered_told_of_a_message_that_was_dropped() {
+    let wrong = wrong(|call, image, out| {
+        let answer = right(call, image, out);
+        Answer { delivered: matches!(call, Call::Post(_)) && answer.number == 0, ..answer }
+    });
+    found(wrong);
+    let report = difference([wrong, wrong]).expect("a difference");
+    assert!(report.starts_with("a message is delivered or dropped without cause"), "{report}");
+}
+
+#[test]
+fn dropped_told_of_a_message_that_was_delivered() {
+    found(wrong(|call, image, out| Answer { delivered: false, ..right(call, image, out) }));
+}
+
+#[test]
+fn delivered_told_of_a_refused_post() {
+    let wrong = wrong(|call, image, out| match right(call, image, out) {
+        answer if matches!(call, Call::Post(_)) && answer.number == 13 => Answer { delivered: true, ..answer },
+        answer => answer,
+    });
+    found(wrong);
+    let report = difference([wrong, wrong]).expect("a difference");
+    assert!(report.starts_with("a refused call tells"), "{report}");
+}
+
+/// Cuts the arguments of a post to these bits.
+fn cut<const SLOT: u32, const LABEL: u32, const VALUE: u32>() -> Implementation {
+    wrong(|call, image, out| match call {
+        Call::Post(Post { slot, label, value }) => {
+            let post = Post { slot: slot & SLOT, label: label & LABEL, value: value & VALUE };
+            right(Call::Post(post), image, out)
+        }
+        _ => right(call, image, out),
+    })
+}
+
+#[test]
+fn a_post_whose_arguments_are_cut() {
+    const ALL: u32 = u32::MAX;
+    found(cut::<0xffff, ALL, ALL>());
+    found(cut::<0xff, ALL, ALL>());
+    found(cut::<ALL, 0xffff, ALL>());
+    found(cut::<ALL, 0xff, ALL>());
+    found(cut::<ALL, ALL, 0x7fff_ffff>());
+    found(cut::<ALL, ALL, 0xffff_0000>());
+}
+
+#[test]
+fn number_15_ahead_of_14() {
+    found(wrong(|call, image, out| match call {
+        Call::Post(Post { label: 16.., .. }) => Answer::refused(15),
+        _ => right(call, image, out),
+    }));
+}
+
+/// Tells the number of the image ahead of 14 and 15, of posts whose slot and label are above 15 or not, as said.
+fn behind_the_image<const SLOT_ABOVE: bool, const LABEL_ABOVE: bool>() -> Implementation {
+    wrong(|call, image, out| match call {
+        Call::Post(post) if (post.slot > 15) == SLOT_ABOVE && (post.label > 15) == LABEL_ABOVE => {
+            match reference::check(image) {
+                0 => right(call, image, out),
+                number => Answer::refused(number),
+            }
+        }
+        _ => right(call, image, out),
+    })
+}
+
+#[test]
+fn numbers_14_and_15_behind_those_of_the_image() {
+    found(behind_the_image::<true, false>());
+    found(behind_the_image::<false, true>());
+    found(behind_the_image::<true, true>());
+}
+
+#[test]
+fn numbers_14_and_15_behind_13() {
+    found(wrong(|call, image, out| match right(call, image, out) {
+        answer if answer.number >= 14 && out.len() < image.len() => Answer::refused(13),
+        answer => answer,
+    }));
+}
+
+/// Whether a message in that slot is from the host.
+fn has_host_mail(image: &[u8], slot: u32) -> bool {
+    let record = &image[reference::record(image, slot)];
+    record.iter().skip(TASK_LENGTH + 1).step_by(MESSAGE_LENGTH).any(|&sender| sender == 16)
+}
+
+#[test]
+fn a_check_that_refuses_the_hosts_messages() {
+    let check = |image: &[u8]| match (0..16).any(|slot| has_host_mail(image, slot)) {
+        true => 10,
+        false => reference::check(image),
+    };
+    found(Implementation { name: "wrong", check, ..REFERENCE });
+}
+
+#[test]
+fn a_check_that_accepts_sender_17() {
+    let check = |image: &[u8]| {
+        let number = reference::check(image);
+        // Only as the sender of a message can 17 be what makes it 10, and 16 in its place not.
+        let lowered = image.iter().map(|&byte| if byte == 17 { 16 } else { byte }).collect::<Vec<u8>>();
+        if number == 10 && reference::check(&lowered) == 0 {
+            0
+        } else {
+            number
+        }
+    };
+    found(Implementation { name: "wrong", check, ..REFERENCE });
 }
