@@ -1,11 +1,12 @@
-# Lays out what the host prints: a table for each observer, before beside after, and what it can see.
-# Usage: awk -f tables.awk day.txt SHEETS. The tasks' names are the comments at day.txt's slot lines.
+# Lays out what the host prints: a table for each observer, before the day beside after it, and what it can see; then what
+# each observer sees of the journal's first posting.
+# Usage: awk -f tables.awk day.txt journal SHEETS. The tasks' names are the comments at day.txt's slot lines.
 BEGIN {
     split("live,done,ran off,label,spare", kinds, ",")
     title[0] = "The public (observer 0)"
     said[0] = "Sees the task with label 0 alone. The message in its mailbox has label 8 and is left out."
     title[1] = "The assay library, owner 0 (observer 1)"
-    said[1] = "Sees that its task has sent its figure. Who received it, and what became of it, is hidden."
+    said[1] = "Sees that its task has received a figure and sent one. Who received that, and what became of it, is hidden."
     title[2] = "The additive maker, owner 1 (observer 2)"
     said[2] = "Sees its own task in the same way, and nothing of the assay library's."
     title[4] = "The refinery, owner 2 (observer 4)"
@@ -27,15 +28,31 @@ FILENAME == ARGV[1] {
     }
     next
 }
-$1 == "before" || $1 == "after" { moment = $1 }
+FILENAME == ARGV[2] {
+    last++
+    if ($1 == "post" && !post_line) {
+        post_line = last
+        post_slot = $2
+        post_label = $3
+        post_value = $4
+    }
+    if (!post_line) turns_before_post += $NF
+    next
+}
+$1 == "line" { line = $2 }
 $1 == "observer" { observer = $2 }
-$1 == "observer" && moment == "before" { observers[++observer_count] = observer }
-/^[0-9]/ { task[observer, moment, $1] = sprintf("%-7s %5s %5s %2s %4s", kinds[$2], $3, $4, $5, $6) }
+$1 == "observer" && line == 0 { observers[++observer_count] = observer }
+/^[0-9]/ {
+    task[observer, line, $1] = sprintf("%-7s %5s %5s %2s %4s", kinds[$2], $3, $4, $5, $6)
+    mail[observer, line, $1] = kinds[$2] ", mail " $6
+}
+
+function or_unused(text) {
+    return text == "" ? "unused" : text
+}
 
 function print_row(slot, task_name, before, after) {
-    if (before == "") before = "unused"
-    if (after == "") after = "unused"
-    printf "  %4s %-15s  %-27s   %s\n", slot, task_name, before, after
+    printf "  %4s %-15s  %-27s   %s\n", slot, task_name, or_unused(before), or_unused(after)
 }
 
 function print_table(observer,    slot, fields) {
@@ -44,11 +61,27 @@ function print_table(observer,    slot, fields) {
     print_row("", "", "before", "after")
     print_row("slot", "task", fields, fields)
     for (slot = 0; slot < 16; slot++)
-        if ((observer, "before", slot) in task || (observer, "after", slot) in task)
-            print_row(slot, (slot in name) ? name[slot] : "(sandbox)",
-                task[observer, "before", slot], task[observer, "after", slot])
+        if ((observer, 0, slot) in task || (observer, last, slot) in task)
+            print_row(slot, (slot in name) ? name[slot] : "(sandbox)", task[observer, 0, slot], task[observer, last, slot])
+}
+
+function print_post_row(observer_title, before, after) {
+    printf "  %-40s  %-12s  %s\n", observer_title, or_unused(before), or_unused(after)
+}
+
+function print_post(    i, observer) {
+    print "\nThe lab's result"
+    printf "After %d turns the host posts %d with label %d to slot %d, the task of the %s.\n", turns_before_post, post_value,
+        post_label, post_slot, name[post_slot]
+    print "An observer who may see label " post_label " sees that a message has come. The others see no change."
+    print_post_row("slot " post_slot " as seen by", "before", "after")
+    for (i = 1; i <= observer_count; i++) {
+        observer = observers[i]
+        print_post_row(title[observer], mail[observer, post_line - 1, post_slot], mail[observer, post_line, post_slot])
+    }
 }
 
 END {
     for (i = 1; i <= observer_count; i++) print_table(observers[i])
+    if (post_line) print_post()
 }
