@@ -79,9 +79,10 @@ rust-test: all ## test the Rust packages, and compare the monitor and slotsheet 
 differential: all ## the same comparison for a long run; SEEDS says how many seeds
 	@$(differential) --first 10000 --seeds $(SEEDS)
 
-examples: all ## test the README's programs, the C host by what is installed below a temporary prefix, and the sample day
+examples: all ## test the README's programs, the C host by what is installed below a temporary prefix, the host loops and the sample day
 	@tests/readme/run
 	@tests/host/run
+	@tests/loop/run
 	@examples/day/run --check
 
 demo: $(archive) ## show what each observer sees of a sample day
