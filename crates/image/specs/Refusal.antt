@@ -27,7 +27,7 @@ abbrev pub unless : Bool → ℕ → ℕ
 unless true x = 0
 unless false x = x
 
--- ---- "1 or 2 first, each only in the call that has that argument"
+-- ---- "1 or 2 first, each only in the call that has that argument", and so are 14 and 15
 
 -- 1 observer: the label asked for is above 15
 abbrev pub observerNumber : ℕ → ℕ
@@ -37,7 +37,7 @@ observerNumber v = unless (leb v highestLabel) 1
 abbrev pub turnLimitNumber : ℕ → ℕ
 turnLimitNumber n = unless (leb n turnLimit) 2
 
--- of a post (02, U1), "both before the image is read": 14, a slot above 15, and then 15, a label above 15
+-- 14 post slot: above 15; then 15 post label: above 15 (02, U1, "both before the image is read")
 abbrev pub postNumber : ℕ → ℕ → ℕ
 postNumber slot label = unless (leb slot highestSlot) 14 then unless (leb label highestLabel) 15
 

@@ -17,7 +17,7 @@ use Rattle.machine.specs.Post.{hostMessage, post}
 use Rattle.machine.specs.Machine.{turns, view}
 use Rattle.machine.proofs.Post.{deliver-more}
 use Rattle.machine.proofs.Machine.{turns-valid, view-valid, post-valid, view-15}
-use Rattle.image.specs.Refusal.{_then_, unless}
+use Rattle.image.specs.Refusal.{unless}
 use Rattle.image.specs.Image.{stateOf, imageBytes}
 use Rattle.image.proofs.Refusal.{then-holds, unless-holds, listed-not}
 use Rattle.image.proofs.Image.{accepted-length, image-listed, image-forth, record-part, record-above, record-refused, record-inside}
@@ -30,6 +30,13 @@ use Rattle.monitor.proofs.Calls.{argument-exactly, numbers-by-cause, li
 use Rattle.monitor.proofs.Posts.{refused-drops, accepted-tells}
 use Rattle.monitor.proofs.Secrecy as Secrecy
 use Rattle.monitor.proofs.Secrecy.{read-valid, rewritten, written-accepted, equal-bytes, equal-views}
+
+-- a number that a post may tell
+abbrev OfPost : ℕ → Type 0
+OfPost x = (x ≤ 15) × (x ≢ 1) × (x ≢ 2)
+
+of-0 : OfPost 0
+of-0 = (omega arith, λ e. omega arith, λ e. omega arith)
 
 pub numbers-are-listed : NumbersAreListed
 numbers-are-listed image out =
@@ -44,11 +51,11 @@ numbers-are-listed image out =
           (unless-holds (λ x. (x ≤ 13) × (x ≢ 1)) (leb n turnLimit) 2 (omega arith, λ e. omega arith) (omega arith, λ e. omega arith))
           (omega (arith, i .most), not-1) (omega arith, λ e. omega arith) (omega arith, λ e. omega arith),
       λ v. observer-listed (viewCall v image) out v refl,
-      λ slot label value. number-holds (postCall slot label value image) out (λ x. (x ≤ 15) × (x ≢ 1) × (x ≢ 2))
-          (then-holds (λ x. (x ≤ 15) × (x ≢ 1) × (x ≢ 2)) (unless (leb slot highestSlot) 14) (unless (leb label highestLabel) 15)
-          (unless-holds (λ x. (x ≤ 15) × (x ≢ 1) × (x ≢ 2)) (leb slot highestSlot) 14 (omega arith, λ e. omega arith, λ e. omega arith) (omega arith, λ e. omega arith, λ e. omega arith))
-          (unless-holds (λ x. (x ≤ 15) × (x ≢ 1) × (x ≢ 2)) (leb label highestLabel) 15 (omega arith, λ e. omega arith, λ e. omega arith) (omega arith, λ e. omega arith, λ e. omega arith)))
-          (omega (arith, i .most), not-1, not-2) (omega arith, λ e. omega arith, λ e. omega arith) (omega arith, λ e. omega arith, λ e. omega arith),
+      λ slot label value. number-holds (postCall slot label value image) out OfPost
+          (then-holds OfPost (unless (leb slot highestSlot) 14) (unless (leb label highestLabel) 15)
+          (unless-holds OfPost (leb slot highestSlot) 14 of-0 (omega arith, λ e. omega arith, λ e. omega arith))
+          (unless-holds OfPost (leb label highestLabel) 15 of-0 (omega arith, λ e. omega arith, λ e. omega arith)))
+          (omega (arith, i .most), not-1, not-2) of-0 (omega arith, λ e. omega arith, λ e. omega arith),
     )
 
 pub limits-are-refused : LimitsAreRefused
@@ -56,11 +63,11 @@ limits-are-refused image out = (
   λ v. limit-exactly (viewCall v image) out v highestLabel 1 refl (omega arith) (λ low high. omega arith),
   λ n. limit-exactly (turnsCall n image) out n turnLimit 2 refl (omega arith) (λ low high. omega arith),
   λ slot label value.
-      let told = argument-exactly (postCall slot label value image) out 14 (omega arith) (λ low high. omega arith) in
-      (λ e. slot-given slot label (told .0 e), λ h. told .1 (rw (lt-leb slot highestSlot h))),
-  λ slot label value.
-      let told = argument-exactly (postCall slot label value image) out 15 (omega arith) (λ low high. omega arith) in
-      (λ e. label-given slot label (told .0 e), λ h. told .1 (rw (le-leb slot highestSlot (h .0), lt-leb label highestLabel (h .1)))),
+      let told-14 = argument-exactly (postCall slot label value image) out 14 (omega arith) (λ low high. omega arith) in
+      let told-15 = argument-exactly (postCall slot label value image) out 15 (omega arith) (λ low high. omega arith) in (
+        (λ e. slot-given slot label (told-14 .0 e), λ h. told-14 .1 (rw (lt-leb slot highestSlot h))),
+        (λ e. label-given slot label (told-15 .0 e), λ h. told-15 .1 (rw (le-leb slot highestSlot (h .0), lt-leb label highestLabel (h .1)))),
+      ),
 )
 
 pub none-in-any-other-event : NoneInAnyOtherEvent
@@ -139,7 +146,7 @@ program-in-every-view v image a =
     (ap (λ (r : State). r .program) read, ap (λ (r : State). r .turnSlot) read)
 
 pub secrecy : Secrecy
-secrecy v seen image image′ a a′ e calls calls′ p p′ n posts = Secrecy.secrecy v image image′ a a′ e seen calls calls′ p p′ n posts
+secrecy v seen image image′ a a′ e = Secrecy.secrecy v image image′ a a′ e seen
 
 pub equal-views-are-equal-bytes : EqualViewsAreEqualBytes
 equal-views-are-equal-bytes v seen image image′ a a′ = (equal-bytes v seen image image′, equal-views v seen image image′ a a′)

@@ -2,9 +2,9 @@
 use Prim.Native.Nat.{ℕ}
 use mathlib.Core.Logic.{_≢_}
 use mathlib.Core.Path.{_≡_, sym, ap, _∙_}
-use mathlib.Core.Bool.{Bool, true, false, _&&_}
+use mathlib.Core.Bool.{Bool, false, _&&_}
 use mathlib.Core.List.{List}
-use borrow.Author.Tests.{eqb-true, eqb-false, eq-eqb, ne-eqb}
+use borrow.Author.Tests.{eqb-true, eq-eqb, ne-eqb}
 use lib.Dec.{eqb}
 use Rattle.wire.proofs.Lists.{split}
 use Rattle.machine.specs.Post.{delivered}
@@ -27,18 +27,13 @@ module _ (slot label value : ℕ) (image out : List ℕ) where
   -- ---- a call that goes so, and says so of its message, keeps the promise
 
   module _ {a : Answer} {after : List ℕ} (p : CallPromise (postCall slot label value image) out a after) where
-    number-is : a .number ≡ callAnswer (postCall slot label value image) out .number
-    number-is = ap (λ (x : Answer). x .number) (p .0)
+    number-is : a .number ≡ callNumber (postCall slot label value image) out
+    number-is = ap (λ (x : Answer). x .number) (p .0) ∙ answer-number (postCall slot label value image) out
 
     pub post-told : {joined : Bool} {r : PostAnswer} → (a .number ≡ 0 → joined ≡ delivered slot label value (stateOf image))
         → r ≡ record { answer = a; delivered = eqb (a .number) 0 && joined } → PostPromise slot label value image out r after
-    post-told {joined} same told = rw told (p, split (eqb (a .number) 0) accepted refused)
-      where
-        accepted : eqb (a .number) 0 ≡ true → (eqb (a .number) 0 && joined) ≡ postDelivered slot label value image out
-        accepted e = let z = eqb-true (a .number) 0 e in rw e (same z ∙ sym (accepted-tells (sym number-is ∙ z)))
-
-        refused : eqb (a .number) 0 ≡ false → (eqb (a .number) 0 && joined) ≡ postDelivered slot label value image out
-        refused e = rw e (sym (refused-drops (λ z. eqb-false (a .number) 0 e (number-is ∙ z))))
+    post-told same told =
+        rw told (p, rw (← number-is) (split (eqb (a .number) 0) (λ e. rw e (same (eqb-true (a .number) 0 e))) (λ e. rw e)))
 
     -- a refused one
     pub post-refused : {k : ℕ} → a ≡ refusal k → k ≢ 0 → {r : PostAnswer} → r ≡ record { answer = a; delivered = eqb (a .number) 0 && false }

@@ -1,5 +1,5 @@
 -- The claims are about the code: the code of each call, called with any arguments, keeps the promise that the claims name.
-use Prim.Native.Nat.{ℕ}
+use Prim.Native.Nat.{ℕ, _^_, _<_}
 use mathlib.Core.Path.{_≡_, refl}
 use mathlib.Core.List.{List, [], _∷_}
 use denote.Ref.{now, ptr}
@@ -7,7 +7,7 @@ use Rattle.wire.specs.Slices.{offsetBy}
 use Rattle.image.specs.Refusal.{imageNumber}
 use Rattle.image.specs.Part.{recordPart, recordExtent}
 use Rattle.monitor.specs.Calls.{callAnswer, callOutput, refusal, CallPromise, rewriteCall, turnsCall, PostPromise, viewCall}
-use Rattle.monitor.specs.CallList.{Request, HostCall, imageAfter, requestCall, Fits, KeptPromises}
+use Rattle.monitor.specs.CallList.{Request, askTurns, askPost, HostCall, imageAfter, requestCall, Fits, KeptPromises}
 use Rattle.monitor.proofs.Keeps.{Keeps, imageOf, slotNumberOf, countOf, observerOf, outputOf, labelOf, valueOf, postOutputOf, soleOutputOf, numberOf}
 use Rattle.monitor.proofs.check as Check
 use Rattle.monitor.proofs.check.Symbol as CheckCode
@@ -65,7 +65,7 @@ module _ {M : Type 1} where
       (λ κs a r e. CallPromise (viewCall (observerOf a) (now (imageOf a))) (now (outputOf a)) r (now (outputOf e)))
   view-keeps = ViewMet.met
 
--- ---- lists of calls that keep the promises: none, and one with any arguments and any output ahead of others
+-- ---- lists of calls that keep the promises: none, and one with any output ahead of others
 
 pub kept-none : (image : List ℕ) → KeptPromises [] image
 kept-none image = tt
@@ -74,6 +74,17 @@ kept-none image = tt
 abbrev pub went : Request → List ℕ → List ℕ → HostCall
 went r out image = record { request = r; out = out; told = callAnswer (requestCall r image) out; after = callOutput (requestCall r image) out }
 
-pub kept-next : (r : Request) → Fits r → (out image : List ℕ) (calls : List HostCall) → KeptPromises calls (imageAfter (went r out image) image)
+kept-next : (r : Request) → Fits r → (out image : List ℕ) (calls : List HostCall) → KeptPromises calls (imageAfter (went r out image) image)
     → KeptPromises (went r out image ∷ calls) image
 kept-next r fits out image calls kept = ((fits, (refl, refl)), kept)
+
+-- a turn call with any n
+pub kept-turns : (n : ℕ) (out image : List ℕ) (calls : List HostCall) → KeptPromises calls (imageAfter (went (askTurns n) out image) image)
+    → KeptPromises (went (askTurns n) out image ∷ calls) image
+kept-turns n = kept-next (askTurns n) tt
+
+-- a post with any slot and label, and any value of 32 bits
+pub kept-post : (slot label value : ℕ) → value < 2 ^ 32 → (out image : List ℕ) (calls : List HostCall)
+    → KeptPromises calls (imageAfter (went (askPost slot label value) out image) image)
+    → KeptPromises (went (askPost slot label value) out image ∷ calls) image
+kept-post slot label value fits = kept-next (askPost slot label value) fits

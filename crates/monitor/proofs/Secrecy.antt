@@ -8,6 +8,7 @@ use native.Mathlib.Nat.{add-zero, zero-add}
 use native.Mathlib.Omega.{arith}
 use borrow.Author.Tests.{le-leb, eqb-true}
 use lib.ListN.{length, take, replicate, length-replicate}
+use Rattle.wire.specs.Lists.{Every}
 use Rattle.wire.proofs.Lists.{split}
 use Rattle.label.specs.Label.{flows}
 use Rattle.machine.specs.Limits.{highestLabel}
@@ -20,8 +21,8 @@ use Rattle.image.specs.Refusal.{observerNumber}
 use Rattle.image.specs.Image.{stateOf, imageBytes}
 use Rattle.image.proofs.Image.{accepted-valid, image-back, image-bytes, image-accepted, image-forth}
 use Rattle.monitor.specs.Calls.{callAnswer, callOutput, viewBytes, viewCall}
-use Rattle.monitor.specs.CallList.{Request, askTurns, askPost, HostCall, isAccepted, imageAfter, finalImage, turnsAsked, turnsCarriedOut}
-use Rattle.monitor.specs.CallList.{VisiblePost, postsAsked, postsFrom, visiblePosts, requestCall, Fits, KeptPromise, KeptPromises}
+use Rattle.monitor.specs.CallList.{Request, askTurns, askPost, HostCall, isAccepted, imageAfter, finalImage, turnsAsked, turnsOf, turnsCarriedOut}
+use Rattle.monitor.specs.CallList.{VisiblePost, postsAsked, postsFrom, visiblePosts, Agree, requestCall, Fits, KeptPromise, KeptPromises}
 use Rattle.monitor.specs.Claims.{Accepted, EqualViews}
 use Rattle.monitor.proofs.Calls.{accepted-exactly, post-within, writes-its-answer, tell-the-same}
 
@@ -180,16 +181,34 @@ module _ (v : ℕ) (image image′ : List ℕ) (a : Accepted image) (a′ : Acce
       ∙ image-forth (view v s′) (view-valid v s′ (read-valid image′ a′))
 
   -- both lists end with the view that the visible posts and the turns make of the first one's start
-  pub secrecy : v ≤ highestLabel → (calls calls′ : List HostCall) → KeptPromises calls image → KeptPromises calls′ image′
-      → turnsCarriedOut calls ≡ turnsCarriedOut calls′ → visiblePosts v calls ≡ visiblePosts v calls′
+  pub secrecy : v ≤ highestLabel → (calls calls′ : List HostCall) → KeptPromises calls image → KeptPromises calls′ image′ → Agree v calls calls′
       → EqualViews v (finalImage calls image) (finalImage calls′ image′)
-  secrecy seen calls calls′ p p′ n posts =
+  secrecy seen calls calls′ p p′ agree =
       let s = stateOf image in
       let ok = read-valid image a in
       let start = ap (view v) (turns-none s) in
       let ends = calls-follow v calls image a p 0 0 s ok start in
       let ends′ = calls-follow v calls′ image′ a′ p′ 0 0 s ok (sym states-same ∙ start) in
       let same : view v (replay (visiblePosts v calls) 0 (0 + 0 + turnsCarriedOut calls) s) ≡ view v (replay (visiblePosts v calls′) 0 (0 + 0 + turnsCarriedOut calls′) s)
-      = rw (n, posts) in
+      = rw (agree .turns, agree .posts) in
       equal-views v seen (finalImage calls image) (finalImage calls′ image′) (final-accepted calls image a p) (final-accepted calls′ image′ a′ p′)
       (ap imageBytes (ends ∙ same ∙ sym ends′))
+
+-- ---- the case without posts: of lists of turn calls alone the rule asks for as many turns, and for nothing else
+
+abbrev pub AsksTurns : Request → Type 0
+AsksTurns (askTurns n) = Unit {0}
+AsksTurns (askPost slot label value) = ⊥
+
+turns-show-none : (v before : ℕ) (cs : List HostCall) → Every (λ c. AsksTurns (c .request)) cs → postsFrom v before cs ≡ []
+turns-show-none v before [] only = refl
+turns-show-none v before (c ∷ cs) only = none (c .request) (isAccepted c) (only .0) ∙ turns-show-none v (before + turnsOf c) cs (only .1)
+  where
+    none : (q : Request) (accepted : Bool) → AsksTurns q → {ps : List VisiblePost} → cond accepted (postsAsked v before q) [] ++ ps ≡ ps
+    none (askTurns n) true only = refl
+    none (askTurns n) false only = refl
+    none (askPost slot label value) accepted only = absurd only
+
+pub turn-calls-agree : (v : ℕ) (calls calls′ : List HostCall) → Every (λ c. AsksTurns (c .request)) calls → Every (λ c. AsksTurns (c .request)) calls′
+    → turnsCarriedOut calls ≡ turnsCarriedOut calls′ → Agree v calls calls′
+turn-calls-agree v calls calls′ only only′ e = record { turns = e; posts = turns-show-none v 0 calls only ∙ sym (turns-show-none v 0 calls′ only′) }

@@ -1,6 +1,7 @@
 -- A list of calls as they went, turn calls and posts: the image that it ends with, the turns that it carried out, the posts that an
--- observer may know of, and what is known of it.
+-- observer may know of, what two lists have to have in common, and what is known of a list.
 use Prim.Native.Nat.{ℕ, _+_, _^_, _<_}
+use mathlib.Core.Path.{_≡_}
 use mathlib.Core.Bool.{Bool, cond}
 use mathlib.Core.List.{List, [], _∷_, _++_}
 use lib.Dec.{eqb}
@@ -72,6 +73,11 @@ postsFrom v before (c ∷ cs) = postsOf v before c ++ postsFrom v (before + turn
 
 abbrev pub visiblePosts : ℕ → List HostCall → List VisiblePost
 visiblePosts v cs = postsFrom v 0 cs
+
+-- what the rule asks of two lists: as many turns in all, and the same visible posts
+pub record Agree (v : ℕ) (calls calls′ : List HostCall) : Type 0 where
+  pub turns : turnsCarriedOut calls ≡ turnsCarriedOut calls′
+  pub posts : visiblePosts v calls ≡ visiblePosts v calls′
 
 -- ---- all that is known of how the calls went: each kept the promise of `monitor::turns` or `monitor::post` for the image that it
 -- was given

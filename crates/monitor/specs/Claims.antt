@@ -19,7 +19,7 @@ use Rattle.image.specs.Refusal.{imageNumber}
 use Rattle.image.specs.Part.{recordStart, recordPart, recordExtent}
 use Rattle.monitor.specs.declared.Answer.{Answer}
 use Rattle.monitor.specs.Calls.{Call, callAnswer, callOutput, CallPromise, rewriteCall, turnsCall, postCall, postDelivered, viewBytes, viewCall}
-use Rattle.monitor.specs.CallList.{HostCall, finalImage, turnsCarriedOut, visiblePosts, KeptPromises}
+use Rattle.monitor.specs.CallList.{HostCall, finalImage, Agree, KeptPromises}
 
 -- an accepted image: bytes whose number is 0
 pub record Accepted (image : List ℕ) : Type 0 where
@@ -53,8 +53,9 @@ LimitsAreRefused =
     (image out : List ℕ)
     → ((v : ℕ) → Exactly (callAnswer (viewCall v image) out .number ≡ 1) (highestLabel < v))
     × ((n : ℕ) → Exactly (callAnswer (turnsCall n image) out .number ≡ 2) (turnLimit < n))
-    × ((slot label value : ℕ) → Exactly (callAnswer (postCall slot label value image) out .number ≡ 14) (highestSlot < slot))
-    × ((slot label value : ℕ) → Exactly (callAnswer (postCall slot label value image) out .number ≡ 15) ((slot ≤ highestSlot) × (highestLabel < label)))
+    × ((slot label value : ℕ)
+    → Exactly (callAnswer (postCall slot label value image) out .number ≡ 14) (highestSlot < slot)
+    × Exactly (callAnswer (postCall slot label value image) out .number ≡ 15) ((slot ≤ highestSlot) × (highestLabel < label)))
 
 -- "The first met is given; none of them in any other event": each number of a call by what gives it. 3 to 12 come from the image
 -- alone, where the arguments have none; 13 from the output, where neither has one; every other from the arguments alone
@@ -168,7 +169,7 @@ pub record EqualViews (v : ℕ) (image image′ : List ℕ) : Type 0 where
   pub shown : TellTheSame (viewCall v image) (viewCall v image′)
 
 -- "The two lists start from two accepted images whose views for v are the same bytes." Each holds any turn calls and posts, with
--- any arguments and any output, refused ones included. They carry out the same number of turns in all; "if the accepted posts whose
+-- any arguments and any output, refused ones included; a post's value has 32 bits, as its argument has. They carry out the same number of turns in all; "if the accepted posts whose
 -- label flows to the observer agree in both lists, each after the same number of turns and in the same order, equal starting views
 -- give equal views; other posts are free." Lists of turn calls alone are the case without posts. "It is a single claim about two
 -- whole lists, for every v". It is about the code: the calls are known by what they told and wrote, and of that only what the code
@@ -177,8 +178,7 @@ abbrev pub Secrecy : Type 0
 Secrecy =
     (v : ℕ) → v ≤ highestLabel
     → (image image′ : List ℕ) → Accepted image → Accepted image′ → viewBytes v image ≡ viewBytes v image′
-    → (calls calls′ : List HostCall) → KeptPromises calls image → KeptPromises calls′ image′
-    → turnsCarriedOut calls ≡ turnsCarriedOut calls′ → visiblePosts v calls ≡ visiblePosts v calls′
+    → (calls calls′ : List HostCall) → KeptPromises calls image → KeptPromises calls′ image′ → Agree v calls calls′
     → EqualViews v (finalImage calls image) (finalImage calls′ image′)
 
 -- for accepted images, views that are the same bytes are equal views, and the other way round

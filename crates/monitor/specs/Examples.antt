@@ -12,7 +12,7 @@ use Rattle.image.specs.Record.{mailboxAt}
 use Rattle.image.specs.Image.{imageBytes}
 use Rattle.image.specs.Refusal.{imageNumber}
 use Rattle.image.specs.Examples.{task, message, one, two}
-use Rattle.monitor.specs.Calls.{refusal, callAnswer, rewriteCall, turnsCall, postCall, viewBytes, viewCall}
+use Rattle.monitor.specs.Calls.{callAnswer, rewriteCall, turnsCall, postCall, viewBytes, viewCall}
 use Rattle.monitor.specs.CallList.{Request, askTurns, askPost, HostCall, VisiblePost, visiblePosts}
 
 abbrev pub state : List ℕ → ℕ → List Slot → State
@@ -70,9 +70,9 @@ subtract = 0x04 ∷ 0 ∷ 0 ∷ 1 ∷ []
 
 -- ---- posts
 
--- calls as they went, as far as the posts that an observer may know of go by them: accepted, and refused
+-- a call that told this number, with only that filled in which `visiblePosts` looks at
 abbrev pub told : ℕ → Request → HostCall
-told number r = record { request = r; out = []; told = refusal number; after = [] }
+told number r = record { request = r; out = []; told = record { number = number; length = 0; busy = 0 }; after = [] }
 
 abbrev pub accepted : Request → HostCall
 accepted = told 0
@@ -129,7 +129,7 @@ pub record Examples : Type 0 where
   -- differ, and refused ones, are not in it
   pub posts : (visiblePosts 0 (accepted (askTurns 3) ∷ accepted (askPost 5 1 7) ∷ accepted (askPost 5 0 9) ∷ []) ≡ visible 3 9 ∷ [])
       × (visiblePosts 0 (accepted (askPost 4 8 8) ∷ accepted (askTurns 3) ∷ told 13 (askPost 5 0 6) ∷ accepted (askPost 5 0 9) ∷ []) ≡ visible 3 9 ∷ [])
-  -- one turn late is another list, and so is the other order
+  -- one turn late, the refused turns not counted, is another list, and so is the other order
   pub late : visiblePosts 0 (accepted (askTurns 3) ∷ told 2 (askTurns 1000001) ∷ accepted (askTurns 1) ∷ accepted (askPost 5 0 9) ∷ []) ≡ visible 4 9 ∷ []
   pub reordered : (visiblePosts 0 (accepted (askPost 5 0 8) ∷ accepted (askPost 5 0 9) ∷ []) ≡ visible 0 8 ∷ visible 0 9 ∷ [])
       × (visiblePosts 0 (accepted (askPost 5 0 9) ∷ accepted (askPost 5 0 8) ∷ []) ≡ visible 0 9 ∷ visible 0 8 ∷ [])

@@ -12,7 +12,7 @@ ghost use Rattle.snapshot.specs.Writing.{snapshotBytes};
 ghost use Rattle.monitor.specs.Calls.{refusal, CallPromise, rewriteCall, turnsCall, PostPromise, viewCall};
 ghost use Rattle.monitor.specs.Inner.{outputAnswer};
 
-// What a call tells: 01's number, 0 where it is accepted; the length of what it wrote; the turns that met a live task.
+// What a call tells: the papers' number, 0 where it is accepted; the length of what it wrote; the turns that met a live task.
 pub struct Answer {
     pub number: u8,
     pub length: usize,

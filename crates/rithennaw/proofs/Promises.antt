@@ -1,7 +1,7 @@
 -- The claims are about the C functions: the code of each, called with any arguments, keeps its promise, and what it told and
 -- wrote is a call as the claims take it.
 use Prim.Native.Nat.{ℕ}
-use mathlib.Core.Path.{_≡_, sym, _∙_}
+use mathlib.Core.Path.{_≡_, refl, sym, _∙_}
 use mathlib.Core.Bool.{cond}
 use mathlib.Core.List.{List}
 use denote.Ref.{now}
@@ -9,7 +9,7 @@ use Rattle.wire.specs.Lists.{Bytes}
 use Rattle.image.specs.Refusal.{imageNumber}
 use Rattle.image.specs.Part.{recordExtent}
 use Rattle.monitor.specs.Calls.{Call, callAnswer, CallPromise, rewriteCall, turnsCall, postCall, postDelivered, viewCall}
-use Rattle.monitor.specs.CallList.{Request, askPost, requestCall, Fits, KeptPromise}
+use Rattle.monitor.specs.CallList.{askTurns, askPost, Fits, KeptPromise}
 use Rattle.monitor.specs.Claims.{Accepted, Exactly}
 use Rattle.monitor.proofs.Calls.{busy-0}
 use Rattle.monitor.proofs.Keeps.{Keeps, imageOf, slotNumberOf, countOf, observerOf, outputOf, labelOf, valueOf, postOutputOf, soleOutputOf}
@@ -108,8 +108,16 @@ module _ (c : Call) (out : List ℕ) {number length : ℕ} {after : List ℕ} (t
   pub told-promise-0 : c .busy ≡ 0 → CallPromise c out (record { number = number; length = length; busy = 0 }) after
   told-promise-0 none = told-promise (sym (busy-0 c out none))
 
--- a request that was made of an image is a call of a list as the secrecy rule takes it; a post's busy count is 0
-pub told-kept : (q : Request) (image out : List ℕ) {number length busy : ℕ} {after : List ℕ} → Fits q
-    → Told (requestCall q image) out number length after → busy ≡ callAnswer (requestCall q image) out .busy
-    → KeptPromise (record { request = q; out = out; told = record { number = number; length = length; busy = busy }; after = after }) image
-told-kept q image out fits told counted = (fits, told-promise (requestCall q image) out told counted)
+-- ---- and to the lists of the secrecy rule: what `rithennaw_turns` and `rithennaw_post` promise makes a call of a list
+
+pub turns-kept : (n : ℕ) (image out : List ℕ) {number length busy : ℕ} {after : List ℕ}
+    → Told (turnsCall n image) out number length after × (busy ≡ callAnswer (turnsCall n image) out .busy)
+    → KeptPromise (record { request = askTurns n; out = out; told = record { number = number; length = length; busy = busy }; after = after }) image
+turns-kept n image out told = (tt, told-promise (turnsCall n image) out (told .0) (told .1))
+
+pub post-kept : (slot label value : ℕ) (image out : List ℕ) {number length delivered : ℕ} {after : List ℕ}
+    → Told (postCall slot label value image) out number length after
+    × (delivered ≡ cond (postDelivered slot label value image out) 1 0)
+    × Fits (askPost slot label value)
+    → KeptPromise (record { request = askPost slot label value; out = out; told = record { number = number; length = length; busy = 0 }; after = after }) image
+post-kept slot label value image out told = (told .2, told-promise-0 (postCall slot label value image) out (told .0) refl)

@@ -27,7 +27,7 @@ sheets-follow-views v image image′ a a′ e =
     tell-the-same (sheetCall v image) (sheetCall v image′) refl (a .number ∙ sym (a′ .number)) (ap sheetText (states-same v image image′ a a′ e)) refl
 
 pub sheet-secrecy : SheetSecrecy
-sheet-secrecy v seen image image′ a a′ e calls calls′ p p′ n posts =
-    let ends = secrecy v seen image image′ a a′ e calls calls′ p p′ n posts in
+sheet-secrecy v seen image image′ a a′ e calls calls′ p p′ agree =
+    let ends = secrecy v seen image image′ a a′ e calls calls′ p p′ agree in
     sheets-follow-views v (finalImage calls image) (finalImage calls′ image′) (ends .left) (ends .right)
     (equal-bytes v seen (finalImage calls image) (finalImage calls′ image′) ends)

@@ -8,7 +8,7 @@ use Rattle.machine.specs.Limits.{highestLabel, sheetRoom, inputRoom}
 use Rattle.machine.specs.Machine.{turns}
 use Rattle.image.specs.Image.{imageBytes}
 use Rattle.monitor.specs.Calls.{callAnswer, viewBytes}
-use Rattle.monitor.specs.CallList.{HostCall, finalImage, turnsCarriedOut, visiblePosts, KeptPromises}
+use Rattle.monitor.specs.CallList.{HostCall, finalImage, Agree, KeptPromises}
 use Rattle.monitor.specs.Claims.{Accepted, Exactly, NumbersByCause, TellTheSame}
 use Rattle.monitor.specs.Examples.{b, receiver}
 use Rattle.sheet.specs.Text.{ascii}
@@ -42,8 +42,7 @@ abbrev pub SheetSecrecy : Type 0
 SheetSecrecy =
     (v : ℕ) → v ≤ highestLabel
     → (image image′ : List ℕ) → Accepted image → Accepted image′ → viewBytes v image ≡ viewBytes v image′
-    → (calls calls′ : List HostCall) → KeptPromises calls image → KeptPromises calls′ image′
-    → turnsCarriedOut calls ≡ turnsCarriedOut calls′ → visiblePosts v calls ≡ visiblePosts v calls′
+    → (calls calls′ : List HostCall) → KeptPromises calls image → KeptPromises calls′ image′ → Agree v calls calls′
     → TellTheSame (sheetCall v (finalImage calls image)) (sheetCall v (finalImage calls′ image′))
 
 -- rows of what the program prints
