@@ -157,7 +157,8 @@ uint8_t rithennaw_rewrite(const uint8_t *image, size_t image_len, uint8_t *out, 
  * number of turns that met a live task. A refused call has carried out no turn. The output cannot be the image; to go on,
  * exchange the two buffers.
  * What this call tells and writes depends on all tasks, hidden ones too: the image, *length, *busy, a 13 and the time it
- * takes are for the host alone. An observer is given what rithennaw_view writes.
+ * takes are for the host alone. An observer is given what rithennaw_view writes, and sees how many turns were run: `count`,
+ * and when it is called, must not be chosen by what is hidden from it, such as *busy.
  * Returns 0, 2, 3 to 12, or 13 where the image after the turns has more than out_len bytes.
  */
 uint8_t rithennaw_turns(const uint8_t *image, size_t image_len, uint64_t count, uint8_t *out, size_t out_len,
@@ -170,7 +171,7 @@ uint8_t rithennaw_turns(const uint8_t *image, size_t image_len, uint64_t count, 
  * accepted. The task receives the message as it does any other, once the message's label flows to its own.
  * What this call tells and writes depends on all tasks, hidden ones too: *delivered, the image, *length, a 13 and the time
  * it takes are for the host alone. A post is no secret from an observer to whom its label flows: whether and when it is
- * made, and its slot and value, must not be chosen by what is hidden from that observer, such as *delivered.
+ * made, and its slot, label and value, must not be chosen by what is hidden from that observer, such as *delivered.
  * Returns 0, 14 where the slot is above 15, 15 where the label is, 3 to 12, or 13 where the image after the post has more
  * than out_len bytes.
  */

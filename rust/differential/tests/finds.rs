@@ -165,6 +165,18 @@ fn a_post_into_a_stopped_task() {
 }
 
 #[test]
+fn a_post_dropped_where_the_task_may_not_receive_it() {
+    found(wrong(|call, image, out| match call {
+        Call::Post(post) if post.label <= 15 => {
+            let record = &image[reference::record(image, post.slot)];
+            let admitted = record.get(1).map_or(true, |&label| post.label & !u32::from(label) == 0);
+            right(if admitted { call } else { Call::Rewrite }, image, out)
+        }
+        _ => right(call, image, out),
+    }));
+}
+
+#[test]
 fn a_full_mailbox_counted_over_all_labels() {
     found(common_limit());
 }

@@ -127,12 +127,16 @@ fn in_another_order(plan: &mut Plan) -> bool {
 
 #[test]
 fn views_differ_where_the_lists_are_not_what_the_rule_asks_for() {
-    let changes: [(&str, Change); 6] = [
+    let changes: [(&str, Change); 7] = [
         ("a visible post a turn late", a_turn_late),
         ("visible posts in another order", in_another_order),
         ("a visible post less", |plan| plan.posts.pop().is_some()),
         ("a visible post with another value", |plan| {
             plan.posts.last_mut().map(|posted| posted.post.value ^= 1).is_some()
+        }),
+        ("a visible post with label 0 in place of another", |plan| {
+            let labelled = plan.posts.iter_mut().rfind(|posted| posted.post.label != 0);
+            labelled.map(|posted| posted.post.label = 0).is_some()
         }),
         ("a visible post to another slot", |plan| plan.posts.last_mut().map(|posted| posted.post.slot ^= 1).is_some()),
         ("a turn more", |plan| {

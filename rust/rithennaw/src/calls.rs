@@ -101,8 +101,8 @@ pub fn turns_into(image: &[u8], count: u64, out: &mut [u8]) -> Result<TurnedInto
 /// its sender. Else it is dropped, and the image is as it was. The task receives the message as it does any other, once the
 /// message's label flows to its own.
 ///
-/// A post is no secret from an observer to whom its label flows: whether and when it is made, and its slot and value, must
-/// not be chosen by what is hidden from that observer, such as whether another post was delivered.
+/// A post is no secret from an observer to whom its label flows: whether and when it is made, and its slot, label and value,
+/// must not be chosen by what is hidden from that observer, such as whether another post was delivered.
 ///
 /// # Errors
 /// Refusals 3 to 12, 14 and 15.
