@@ -169,11 +169,11 @@ pub record EqualViews (v : ℕ) (image image′ : List ℕ) : Type 0 where
   pub shown : TellTheSame (viewCall v image) (viewCall v image′)
 
 -- "The two lists start from two accepted images whose views for v are the same bytes." Each holds any turn calls and posts, with
--- any arguments and any output, refused ones included; a post's value has 32 bits, as its argument has. They carry out the same number of turns in all; "if the accepted posts whose
--- label flows to the observer agree in both lists, each after the same number of turns and in the same order, equal starting views
--- give equal views; other posts are free." Lists of turn calls alone are the case without posts. "It is a single claim about two
--- whole lists, for every v". It is about the code: the calls are known by what they told and wrote, and of that only what the code
--- promises (proofs/Promises.antt).
+-- any arguments and any output, refused ones included; a post's value has 32 bits, as its argument has. They carry out the same
+-- number of turns in all; "if the accepted posts whose label flows to the observer agree in both lists, each after the same number
+-- of turns and in the same order, equal starting views give equal views; other posts are free." Lists of turn calls alone are the
+-- case without posts (`turn-calls-agree`, proofs/Secrecy.antt). "It is a single claim about two whole lists, for every v". It is about
+-- the code: the calls are known by what they told and wrote, and of that only what the code promises (proofs/Promises.antt).
 abbrev pub Secrecy : Type 0
 Secrecy =
     (v : ℕ) → v ≤ highestLabel
