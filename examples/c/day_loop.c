@@ -1,11 +1,21 @@
 /*
- * day_loop.c: a host that runs a day step by step and loses nothing when power is cut, to copy from. It posts the plant's
- * figures, runs turns, saves the image, and gives each owner its view. ISO C99 and POSIX.1-2008.
+ * day_loop.c: a host that runs a day step by step and goes on after a power cut as if there had been none, to copy from. It
+ * posts the plant's figures, runs turns, saves the image, and gives each owner its view. ISO C99 and POSIX.1-2008.
  *
- *     cc -std=c99 day_loop.c $(pkg-config --cflags --libs rithennaw) -o day_loop
- *     ./day_loop DAY OWNER0 OWNER1 OWNER2 OWNER3
+ * A first run, after `make`, on the sample day:
  *
- * DAY is a folder for the host alone. It has
+ *     gcc -std=c99 -I include examples/c/day_loop.c target/staticlib/librithennaw.a -o day_loop
+ *     mkdir -m 700 day
+ *     mkdir o0 o1 o2 o3
+ *     cp examples/day/day.image day/start.image
+ *     cp examples/day/journal day
+ *     flock day ./day_loop day o0 o1 o2 o3
+ *
+ * After `make install` it is built by `gcc -std=c99 day_loop.c $(pkg-config --cflags --libs rithennaw) -o day_loop`.
+ *
+ *     flock DAY ./day_loop DAY OWNER0 OWNER1 OWNER2 OWNER3
+ *
+ * DAY is a folder for the host alone (`mkdir -m 700 DAY`). It has
  *
  *     start.image    the image that the day begins with
  *     journal        what is to be done, a line for each step; lines are added at the end, and what is done stays as it is
@@ -19,27 +29,37 @@
  *     turns 32
  *     post 0 1 912 post 1 2 18 turns 208
  *
- * `post SLOT LABEL VALUE` posts, `turns COUNT` runs turns. What stands behind the last line feed is not there yet. The
- * program carries out the lines that are not done, and ends; it is started again when there are more. Only one may run on a
- * DAY at a time: `flock DAY ./day_loop DAY ...` sees to that.
+ * `post SLOT LABEL VALUE` posts, `turns COUNT` runs turns. What stands behind the last line feed is not there yet. Whoever
+ * adds a line first cuts that off, then writes the line whole and syncs the file; until then a power cut may lose the line.
+ * If the start of a line stayed there and the same line came behind it, the two together might post twice.
+ *
+ * The program carries out the lines that are not done, and ends; it is started again when there are more. Only one may run on
+ * a DAY at a time, since two would write the same file `new`: flock sees to that. The next day is another DAY, whose
+ * start.image is `tail -n +2 DAY/saved`.
  *
  * It may end at any moment, by a power cut too. The next start goes on as if it had not, and no posting is lost or made
  * twice, because
  *
  * - the number of lines done and the image are one file, so that a single rename moves both (`save`, `replace`);
  * - a line is done whole or not at all: it is carried out in memory, and one save is the end of it;
- * - no owner is given a view of what is not saved. After a power cut the step is taken anew, and if its line was changed in
- *   the meantime it goes otherwise: the owner would have seen what then never was;
- * - each start gives the views of the saved image, since the run before may have ended between saving and giving;
- * - a line is acted on once the disk has it. Otherwise a power cut could take a line out of the journal that counts as done,
- *   and the next one that is added would pass for it.
+ * - no owner is given a view of what the disk does not have. After a power cut the step is taken anew; its line may have been
+ *   changed before it is run again, and the owner would have seen a step that did not happen;
+ * - each start syncs what is saved and gives the views of it, since the run before may have ended between the two;
+ * - a line is acted on only after the disk has it. Otherwise a power cut could take a line out of the journal that counts as
+ *   done, and the next one that is added would pass for it.
+ *
+ * What the host is told of messages that were dropped is not part of that: see `tell_dropped`.
  *
  * All owners see when views are written, and how many turns were run. So neither may depend on figures that one of them must
- * not know: let a clock decide on lines and turns. A posting waits for the next line, and does not get one of its own.
+ * not know: let a clock decide on lines and turns. A posting waits for the next line, and does not get one of its own. How
+ * long a step takes depends on hidden tasks, and the times of the files show it. A host that must hide this gives the views
+ * at fixed moments: it waits between `save` and `give_views` for the next one, and sets the files' times to it. That a line
+ * stops the day is seen by all too; so check a line before it is added.
  *
  * Exit status: 0; 1 where the monitor refuses a call; 2 where the arguments or a file's text are wrong, or a file cannot be
  * read or written. A line that is refused or cannot be read stops the day ahead of it, until somebody corrects it and starts
  * the program again. It is not passed over, since the turns behind it were to run with its figures and cannot be taken back.
+ * A view that cannot be written stops the day too, when the other owners have theirs.
  */
 #define _POSIX_C_SOURCE 200809L /* fsync, getline, openat, renameat */
 
@@ -49,6 +69,7 @@
 #include <stdio.h>
 #include <stdlib.h>
 #include <string.h>
+#include <sys/stat.h>
 #include <sys/types.h>
 #include <unistd.h>
 
@@ -62,6 +83,9 @@ enum { STATUS_REFUSED = 1, STATUS_UNUSABLE = 2 };
 #define SAVED "saved"
 #define VIEW "view"
 #define NEW "new"
+
+/* Who may read a file: the host alone, or whoever the owner's folder lets in. The umask may take away from it. */
+enum { FOR_HOST = S_IRUSR | S_IWUSR, FOR_OWNER = FOR_HOST | S_IRGRP | S_IROTH };
 
 enum { OWNERS = 4 };
 
@@ -139,9 +163,9 @@ static int sync_all(int file)
 }
 
 /* Writes the file NEW, and waits until the disk has it. */
-static int write_new(const struct folder *folder, const uint8_t *bytes, size_t length)
+static int write_new(const struct folder *folder, mode_t mode, const uint8_t *bytes, size_t length)
 {
-    const int file = openat(folder->handle, NEW, O_WRONLY | O_CREAT | O_TRUNC, 0666);
+    const int file = openat(folder->handle, NEW, O_WRONLY | O_CREAT | O_TRUNC, mode);
     if (file < 0) {
         return -1;
     }
@@ -159,9 +183,9 @@ static int write_new(const struct folder *folder, const uint8_t *bytes, size_t l
  * names first, a power cut could leave the name with an empty file. And the disk has the name before this returns, so that
  * what comes next may rest on it. A file NEW that another run left is written over.
  */
-static int replace(const struct folder *folder, const char *name, const uint8_t *bytes, size_t length)
+static int replace(const struct folder *folder, const char *name, mode_t mode, const uint8_t *bytes, size_t length)
 {
-    if (write_new(folder, bytes, length) != 0 || renameat(folder->handle, NEW, folder->handle, name) != 0
+    if (write_new(folder, mode, bytes, length) != 0 || renameat(folder->handle, NEW, folder->handle, name) != 0
         || sync_all(folder->handle) != 0) {
         return cannot("write", folder, name);
     }
@@ -216,7 +240,7 @@ static int save(const struct day *day)
     uint8_t bytes[sizeof day->image.bytes];
     const int head = snprintf((char *)bytes, sizeof bytes, "%" PRIu64 "\n", day->lines_done);
     memcpy(bytes + head, day->image.bytes, day->image.length);
-    return replace(&day->own, SAVED, bytes, (size_t)head + day->image.length);
+    return replace(&day->own, SAVED, FOR_HOST, bytes, (size_t)head + day->image.length);
 }
 
 /* An image that is refused is not begun with, and not gone on with. */
@@ -238,43 +262,61 @@ static int begin(struct day *day)
     return status == 0 ? save(day) : status;
 }
 
-/*
- * Goes on where the day stands. A file `saved` that is wrong was not left by a power cut, and is not passed over: the owners
- * have seen what was in it.
- */
-static int resume(struct day *day)
+/* Takes the number of lines done off the front of what was saved. */
+static int split(struct day *day)
 {
     struct image *image = &day->image;
-    uint8_t *end;
-    if (load(&day->own, SAVED, image) != 0) {
-        return errno == ENOENT ? begin(day) : cannot("read", &day->own, SAVED);
-    }
-    end = memchr(image->bytes, '\n', image->length);
+    char *head = (char *)image->bytes;
+    char *end = memchr(head, '\n', image->length);
     if (end == NULL) {
         return wrong(&day->own, SAVED, "there is no line with the number of lines done");
     }
-    *end++ = '\0';
-    if (!parse_number((const char *)image->bytes, UINT64_MAX, &day->lines_done)) {
+    *end = '\0';
+    if (strlen(head) != (size_t)(end - head) || !parse_number(head, UINT64_MAX, &day->lines_done)) {
         return wrong(&day->own, SAVED, "the first line is not the number of lines done");
     }
-    image->length -= (size_t)(end - image->bytes);
-    memmove(image->bytes, end, image->length);
-    return check(SAVED, image);
+    image->length -= (size_t)(end + 1 - head);
+    memmove(head, end + 1, image->length);
+    return 0;
 }
 
-/* Gives each owner its view, which is all that an owner may be given. */
-static int give_views(const struct day *day)
+/*
+ * Goes on where the day stands. The run before may have ended when `saved` had its name and the disk did not have that: it is
+ * synced, as it would be at the end of a save. A file `saved` that is wrong was not left by a power cut, and is not passed
+ * over: the owners have seen what was in it.
+ */
+static int resume(struct day *day)
+{
+    int status;
+    if (load(&day->own, SAVED, &day->image) != 0) {
+        return errno == ENOENT ? begin(day) : cannot("read", &day->own, SAVED);
+    }
+    if (sync_all(day->own.handle) != 0) {
+        return cannot("sync", &day->own, SAVED);
+    }
+    status = split(day);
+    return status == 0 ? check(SAVED, &day->image) : status;
+}
+
+static int give_view(const struct day *day, int owner)
 {
     uint8_t view[RITHENNAW_IMAGE_MAX];
     size_t length;
-    int owner, status = 0;
-    for (owner = 0; status == 0 && owner < OWNERS; owner++) {
-        const uint8_t number = rithennaw_view(day->image.bytes, day->image.length, (uint32_t)1 << owner, view, sizeof view,
-                                              &length);
-        status = number == RITHENNAW_ACCEPTED ? replace(&day->owners[owner], VIEW, view, length)
-                                              : refused("view", number);
+    const uint8_t number = rithennaw_view(day->image.bytes, day->image.length, (uint32_t)1 << owner, view, sizeof view,
+                                          &length);
+    return number == RITHENNAW_ACCEPTED ? replace(&day->owners[owner], VIEW, FOR_OWNER, view, length)
+                                        : refused("view", number);
+}
+
+/* Gives each owner its view, which is all that an owner may be given. Where one cannot be written the others are. */
+static int give_views(const struct day *day)
+{
+    int owner, first_fault = 0;
+    for (owner = 0; owner < OWNERS; owner++) {
+        const int status = give_view(day, owner);
+        first_fault = first_fault == 0 ? status : first_fault;
     }
-    return status;
+    return first_fault;
 }
 
 /* ---- a step: a line of the journal */
@@ -297,10 +339,22 @@ static int no_step(void)
 }
 
 /*
- * Posts what the next three words say, numbers as wide as the call takes them. A message that is dropped is no fault. The
- * host is told, and nobody else: an owner would learn of mail and tasks that are hidden from it. The host is told before the
- * step is saved, so it may be told twice where power was cut; the other way round it might never be.
+ * Tells the host, and nobody else, that a message was dropped: an owner would learn of mail and tasks that are hidden from it.
+ * It is told before the step is saved, and where it cannot be written nothing of the line is done. So the host may be told
+ * twice, where the program ended before the save; and what the terminal or the file did not keep over a power cut is lost. A
+ * run of start.image and the journal in another DAY tells it again.
  */
+static int tell_dropped(uint64_t line, uint64_t slot)
+{
+    const char *text = "day_loop: line %" PRIu64 ": the message to slot %" PRIu64 " was dropped\n";
+    if (fprintf(stderr, text, line, slot) < 0 || fflush(stderr) != 0) {
+        fprintf(stderr, "day_loop: cannot write to standard error: %s\n", strerror(errno));
+        return STATUS_UNUSABLE;
+    }
+    return 0;
+}
+
+/* Posts what the next three words say, numbers as wide as the call takes them. A message that is dropped is no fault. */
 static int post(uint64_t line, char **rest, struct image *image)
 {
     uint64_t words[3];
@@ -317,11 +371,8 @@ static int post(uint64_t line, char **rest, struct image *image)
     if (number != RITHENNAW_ACCEPTED) {
         return refused("post", number);
     }
-    if (!delivered) {
-        fprintf(stderr, "day_loop: line %" PRIu64 ": the message to slot %" PRIu64 " was dropped\n", line, words[0]);
-    }
     *image = after;
-    return 0;
+    return delivered ? 0 : tell_dropped(line, words[0]);
 }
 
 /* Runs as many turns as the next word says, which is the line's last. The busy count is for the host alone, and not kept. */
