@@ -1,4 +1,5 @@
-# Images for tests/host/run, which sources this file: the scope document's B with any field changed, and the longest image.
+# Images for tests/host/run and tests/loop/run, which source this file: the scope document's B with any field changed, and the
+# longest image.
 
 # Writes the bytes that hexadecimal digits name.
 hex() { # DIGITS...

@@ -11,8 +11,12 @@
  * The fate `slow` needs no number: each second write or fsync is interrupted by a signal, and a write takes 100 bytes at
  * most. DISK_UNSYNCED names a file that another program has written and not synced.
  *
- * fsync itself only notes that a file is safe: more than that is not lost here, and a real one takes long. So it is not
- * shown that a real disk keeps what was synced. Nor is a disk tried that keeps a part of what was not.
+ * Where a run ends and power is not cut, the machine still has renames that the disk does not. DISK_RENAMED names a file: if
+ * the last rename to it was not synced, the file that had the name before stays beside it, with `.former` behind the name,
+ * empty if there was none. The next run takes that up, and by its power cut the rename may be undone.
+ *
+ * fsync here only notes that a file is safe, since a real one takes long. So it is not shown that a real disk keeps what was
+ * synced. Nor is a disk tried that keeps a part of what was not.
  */
 #define _GNU_SOURCE /* open64, syscall */
 
@@ -81,19 +85,24 @@ static int open_raw(int folder, const char *path, int flags)
     return (int)syscall(SYS_openat, folder, path, flags, 0666);
 }
 
-/* Gives a name back to the file that had it, as a copy of that file. */
-static void undo_rename(const struct note *note)
+/* Writes a copy of the file that had the name before a rename; an empty file if there was none. */
+static void copy_former(const struct note *note, int folder, const char *path)
 {
     char bytes[16384];
-    ssize_t length;
-    int file;
+    const ssize_t length = note->former < 0 ? 0 : pread(note->former, bytes, sizeof bytes, 0);
+    const int file = open_raw(folder, path, O_WRONLY | O_CREAT);
+    if (length < 0 || syscall(SYS_write, file, bytes, length) != length) {
+        abort();
+    }
+    close(file);
+}
+
+/* Gives a name back to the file that had it. */
+static void undo_rename(const struct note *note)
+{
     unlinkat(note->on, note->name, 0);
     if (note->former >= 0) {
-        length = pread(note->former, bytes, sizeof bytes, 0);
-        file = open_raw(note->on, note->name, O_WRONLY | O_CREAT);
-        if (length < 0 || syscall(SYS_write, file, bytes, length) != length) {
-            abort();
-        }
+        copy_former(note, note->on, note->name);
     }
 }
 
@@ -112,13 +121,60 @@ static void lose_notes(const char *name)
     }
 }
 
-/* ---- the fate of a call */
+/* ---- the settings, and what a run hands to the next */
 
 static const char *setting(const char *name)
 {
     const char *value = getenv(name);
     return value == NULL ? "" : value;
 }
+
+/* Opens the folder that a path names a file in, and tells where the file's name begins. */
+static int open_folder_of(const char *path, const char **name)
+{
+    char folder[PATH_MAX];
+    snprintf(folder, sizeof folder, "%s", path);
+    *strrchr(folder, '/') = '\0';
+    *name = strrchr(path, '/') + 1;
+    return open_raw(AT_FDCWD, folder, O_RDONLY | O_DIRECTORY);
+}
+
+static const char *left_path(void)
+{
+    static char path[PATH_MAX];
+    snprintf(path, sizeof path, "%s.former", setting("DISK_RENAMED"));
+    return path;
+}
+
+/* Leaves what had the name in DISK_RENAMED when it was last synced: that is in the first note of the name. */
+__attribute__((destructor)) static void leave_former(void)
+{
+    const char *slash = strrchr(setting("DISK_RENAMED"), '/');
+    size_t i;
+    for (i = 0; slash != NULL && i < note_count; i++) {
+        if (strcmp(notes[i].name, slash + 1) == 0) {
+            copy_former(&notes[i], AT_FDCWD, left_path());
+            return;
+        }
+    }
+}
+
+/* Takes up what the run before has left. */
+static void take_former(void)
+{
+    const int former = open_raw(AT_FDCWD, left_path(), O_RDONLY);
+    const char *name;
+    struct stat facts;
+    int folder;
+    if (former >= 0 && fstat(former, &facts) == 0) {
+        folder = open_folder_of(setting("DISK_RENAMED"), &name);
+        add_note(folder, name, facts.st_size > 0 ? former : -1);
+        close(folder);
+        unlink(left_path());
+    }
+}
+
+/* ---- the fate of a call */
 
 static int is_slow(void)
 {
@@ -139,6 +195,8 @@ static int fails(void)
     }
     if (strncmp(fate, "cut", 3) == 0) {
         lose_notes(fate[3] == ':' ? fate + 4 : "");
+    } else {
+        leave_former();
     }
     return kill(getpid(), SIGKILL);
 }
@@ -199,13 +257,10 @@ int renameat(int old_folder, const char *old, int folder, const char *name)
 
 int rename(const char *old, const char *path)
 {
-    char folder[PATH_MAX];
-    int handle, result;
-    snprintf(folder, sizeof folder, "%s", path);
-    *strrchr(folder, '/') = '\0';
-    handle = open_raw(AT_FDCWD, folder, O_RDONLY | O_DIRECTORY);
-    result = renameat(AT_FDCWD, old, handle, strrchr(path, '/') + 1);
-    close(handle);
+    const char *name;
+    const int folder = open_folder_of(path, &name);
+    const int result = renameat(AT_FDCWD, old, folder, name);
+    close(folder);
     return result;
 }
 
@@ -215,4 +270,5 @@ __attribute__((constructor)) static void note_unsynced(void)
     if (path[0] != '\0') {
         add_note(open_raw(AT_FDCWD, path, O_WRONLY), "", -1);
     }
+    take_former();
 }
