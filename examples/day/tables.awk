@@ -69,11 +69,12 @@ function print_post_row(observer_title, before, after) {
     printf "  %-40s  %-12s  %s\n", observer_title, or_unused(before), or_unused(after)
 }
 
+# Before the line with the posting, and after it: postings come with turns, since a line of their own would show them to all.
 function print_post(    i, observer) {
     print "\nThe lab's result"
     printf "After %d turns the host posts %d with label %d to slot %d, the task of the %s.\n", turns_before_post, post_value,
         post_label, post_slot, name[post_slot]
-    print "An observer who may see label " post_label " sees that a message has come. The others see no change."
+    print "An observer who may see label " post_label " sees that a message has come. For the others nothing changes there."
     print_post_row("slot " post_slot " as seen by", "before", "after")
     for (i = 1; i <= observer_count; i++) {
         observer = observers[i]
