@@ -49,7 +49,8 @@ check: ## prove what has changed since the last check
 	@$(prove) check
 
 # Quick checks first. Then archive and slotsheet are built once, where rt decides what has changed and not file times
-# (-B), and tested. rt ci is last: it removes target/, proves all from nothing, and its count has to be the last line.
+# (-B), and tested. Proofs wait for each other and leave a processor free, so the longest test of the gate runs beside them. rt ci
+# is last: it removes target/, proves all from nothing, and its count has to be the last line.
 # tools/tested keeps the hashes of what was tested, for make install; they count once all has passed.
 test: ## the whole gate: every test, then every proof from nothing and every must-fail edit
 	@tools/tested forget
@@ -57,11 +58,10 @@ test: ## the whole gate: every test, then every proof from nothing and every mus
 	@$(RT) fmt --check
 	@tools/check-claims
 	@tools/check-version
-	@tests/claims/run
 	@tests/kit/run
 	@tests/gate/run
 	@tests/progress/run
-	@$(MAKE) -B all
+	@tools/beside tests/claims/run $(MAKE) -B all
 	@tools/tested note $(archive) $(slotsheet)
 	@$(MAKE) link-test rust-test examples
 	@tools/tested unchanged
