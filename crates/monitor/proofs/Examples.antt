@@ -35,6 +35,7 @@ examples = record {
   taken = refl;
   postOrder = (refl, refl, refl, refl);
   posts = (refl, refl);
+  free = record { turns = refl; posts = refl };
   late = refl;
   reordered = (refl, refl);
   order = (refl, refl, refl, refl);

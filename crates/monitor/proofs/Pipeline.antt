@@ -1,4 +1,5 @@
--- What the table holds of an image that was loaded, and what is written of it once it was run: the bytes of its state in the view.
+-- What the table holds of an image that was loaded, and what is written of it once it was run or posted to: the bytes of
+-- its state in the view.
 use Prim.Native.Nat.{ℕ, _^_, _<_, _≤_}
 use mathlib.Core.Path.{_≡_, refl, sym, ap, subst, _∙_}
 use mathlib.Core.List.{List}

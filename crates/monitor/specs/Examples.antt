@@ -13,7 +13,7 @@ use Rattle.image.specs.Image.{imageBytes}
 use Rattle.image.specs.Refusal.{imageNumber}
 use Rattle.image.specs.Examples.{task, message, one, two}
 use Rattle.monitor.specs.Calls.{callAnswer, rewriteCall, turnsCall, postCall, viewBytes, viewCall}
-use Rattle.monitor.specs.CallList.{Request, askTurns, askPost, HostCall, VisiblePost, visiblePosts}
+use Rattle.monitor.specs.CallList.{Request, askTurns, askPost, HostCall, VisiblePost, visiblePosts, Agree}
 
 abbrev pub state : List ℕ → ℕ → List Slot → State
 state program turnSlot slots = record { program = program; turnSlot = turnSlot; slots = slots }
@@ -77,6 +77,13 @@ told number r = record { request = r; out = []; told = record { number = number;
 abbrev pub accepted : Request → HostCall
 accepted = told 0
 
+-- two lists with a post of label 0 after 3 turns, which differ in hidden posts and in a refused one
+abbrev pub firstList : List HostCall
+firstList = accepted (askTurns 3) ∷ accepted (askPost 5 1 7) ∷ accepted (askPost 5 0 9) ∷ []
+
+abbrev pub secondList : List HostCall
+secondList = accepted (askPost 4 8 8) ∷ accepted (askTurns 3) ∷ told 13 (askPost 5 0 6) ∷ accepted (askPost 5 0 9) ∷ []
+
 -- the visible post of this value to slot 5, with label 0, after so many turns
 abbrev pub visible : ℕ → ℕ → VisiblePost
 visible turnsBefore value = record { turnsBefore = turnsBefore; slot = 5; label = 0; value = value }
@@ -125,10 +132,9 @@ pub record Examples : Type 0 where
       × (callAnswer (postCall 15 15 0 []) [] .number ≡ 3)
       × (callAnswer (postCall 15 15 0 (bImage unused)) [] .number ≡ 13)
   -- "the accepted posts whose label flows to the observer agree in both lists, each after the same number of turns and in the same
-  -- order [..]; other posts are free": what observer 0 may know of lists with a post of label 0 after 3 turns. Hidden posts that
-  -- differ, and refused ones, are not in it
-  pub posts : (visiblePosts 0 (accepted (askTurns 3) ∷ accepted (askPost 5 1 7) ∷ accepted (askPost 5 0 9) ∷ []) ≡ visible 3 9 ∷ [])
-      × (visiblePosts 0 (accepted (askPost 4 8 8) ∷ accepted (askTurns 3) ∷ told 13 (askPost 5 0 6) ∷ accepted (askPost 5 0 9) ∷ []) ≡ visible 3 9 ∷ [])
+  -- order [..]; other posts are free": what observer 0 may know of the two lists, which is all that the rule asks of them
+  pub posts : (visiblePosts 0 firstList ≡ visible 3 9 ∷ []) × (visiblePosts 0 secondList ≡ visible 3 9 ∷ [])
+  pub free : Agree 0 firstList secondList
   -- one turn late, the refused turns not counted, is another list, and so is the other order
   pub late : visiblePosts 0 (accepted (askTurns 3) ∷ told 2 (askTurns 1000001) ∷ accepted (askTurns 1) ∷ accepted (askPost 5 0 9) ∷ []) ≡ visible 4 9 ∷ []
   pub reordered : (visiblePosts 0 (accepted (askPost 5 0 8) ∷ accepted (askPost 5 0 9) ∷ []) ≡ visible 0 8 ∷ visible 0 9 ∷ [])
