@@ -5,8 +5,7 @@
  * A first run, after `make`, on the sample day:
  *
  *     gcc -std=c99 -I include examples/c/day_loop.c target/staticlib/librithennaw.a -o day_loop
- *     mkdir -m 700 day
- *     mkdir o0 o1 o2 o3
+ *     mkdir -m 700 day o0 o1 o2 o3
  *     cp examples/day/day.image day/start.image
  *     cp examples/day/journal day
  *     flock day ./day_loop day o0 o1 o2 o3
@@ -22,7 +21,9 @@
  *     saved          where the day stands: the number of lines done, a line feed, and the image after them
  *
  * OWNER0 to OWNER3 are folders, one for each owner, which the host alone writes and that owner may read: the file `view` in
- * it is the owner's view. Each has a folder, since the file is another one after each step and would not keep its rights.
+ * it is the owner's view. Each has a folder, since the file is another one after each step and would not keep its rights. Let
+ * each owner into its own folder and no other, by a group for instance (`chgrp OWNER o0; chmod 750 o0`): the files in it may
+ * be read by whoever is let in.
  *
  * A line of the journal is any number of postings, for instance of the lab's results, and then turns, with decimal numbers:
  *
@@ -31,7 +32,8 @@
  *
  * `post SLOT LABEL VALUE` posts, `turns COUNT` runs turns. What stands behind the last line feed is not there yet. Whoever
  * adds a line first cuts that off, then writes the line whole and syncs the file; until then a power cut may lose the line.
- * If the start of a line stayed there and the same line came behind it, the two together might post twice.
+ * If the start of a line stayed there and the same line came behind it, the two together might post twice. That is done under
+ * the same lock (`flock DAY ...`): a run that reads meanwhile might join the start of one line to the end of another.
  *
  * The program carries out the lines that are not done, and ends; it is started again when there are more. Only one may run on
  * a DAY at a time, since two would write the same file `new`: flock sees to that. The next day is another DAY, whose
