@@ -4,7 +4,7 @@ mod clock;
 mod images;
 mod measure;
 
-use differential::calls::{Call, BOTH};
+use differential::calls::{Call, Post, BOTH};
 use images::Case;
 use measure::{measure, Measured, RUNS};
 use rithennaw::TURNS_MAX;
@@ -12,8 +12,9 @@ use std::process::ExitCode;
 use std::time::Duration;
 
 /// The calls whose time is that of reading and writing an image.
-const SINGLE: [(&str, Call); 4] = [
+const SINGLE: [(&str, Call); 5] = [
     ("turns, 0", Call::Turns(0)),
+    ("post to slot 0", Call::Post(Post { slot: 0, label: 0, value: 1 })),
     ("rewrite", Call::Rewrite),
     ("view for label 0", Call::View(0)),
     ("sheet for label 0", Call::Sheet(0)),
