@@ -32,8 +32,8 @@
  *
  * `post SLOT LABEL VALUE` posts, `turns COUNT` runs turns. What stands behind the last line feed is not there yet. Whoever
  * adds a line first cuts that off, then writes the line whole and syncs the file; until then a power cut may lose the line.
- * If the start of a line stayed there and the same line came behind it, the two together might post twice. That is done under
- * the same lock (`flock DAY ...`): a run that reads meanwhile might join the start of one line to the end of another.
+ * If the start of a line stayed there and the same line came behind it, the two together might post twice. Lines are added
+ * under the same lock (`flock DAY ...`): a run that reads meanwhile might join the start of one line to the end of another.
  *
  * The program carries out the lines that are not done, and ends; it is started again when there are more. Only one may run on
  * a DAY at a time, since two would write the same file `new`: flock sees to that. The next day is another DAY, whose
