@@ -11,7 +11,7 @@ use Rattle.machine.specs.View as View
 use Rattle.machine.specs.Valid as Valid
 use Rattle.image.specs.Image as Image
 use Rattle.image.specs.Refusal as Refusal
-use Rattle.sheet.specs.Text as Text
+use Rattle.text.specs.Text as Text
 use Rattle.sheet.specs.Sheet as Sheet
 use Rattle.sheet.specs.Claims.{Prints}
 use Rattle.sheet.proofs.Printed.{printed-long}

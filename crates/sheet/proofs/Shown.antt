@@ -16,7 +16,7 @@ use Rattle.machine.specs.View.{viewTask}
 use Rattle.table.specs.Change.{taskAt}
 use Rattle.snapshot.specs.Writing.{isShown}
 use Rattle.snapshot.proofs.Writing.{viewSlot-shown, viewSlot-hidden}
-use Rattle.sheet.specs.Text.{decimal, lineRest}
+use Rattle.text.specs.Text.{decimal, lineRest}
 use Rattle.sheet.specs.Sheet.{slotLine}
 use Rattle.sheet.specs.Inner.{shownTaskLine, shownLine, shownLines}
 

@@ -11,7 +11,7 @@ use Rattle.monitor.specs.Calls.{callAnswer, viewBytes}
 use Rattle.monitor.specs.CallList.{HostCall, finalImage, Agree, KeptPromises}
 use Rattle.monitor.specs.Claims.{Accepted, Exactly, NumbersByCause, TellTheSame}
 use Rattle.monitor.specs.Examples.{b, receiver}
-use Rattle.sheet.specs.Text.{ascii}
+use Rattle.text.specs.Text.{ascii}
 use Rattle.sheet.specs.Sheet.{sheetBytes, sheetCall, printed}
 
 -- the sheet's call tells 0, or a number of the table other than 2. That it writes its answer and no more is monitor's claim about

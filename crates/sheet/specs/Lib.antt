@@ -1,5 +1,4 @@
 -- The definitions of the crate `sheet`, a file each.
-pub mod Text
 pub mod Sheet
 pub mod Inner
 pub mod Claims

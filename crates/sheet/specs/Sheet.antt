@@ -12,7 +12,7 @@ use Rattle.machine.specs.Machine.{view}
 use Rattle.image.specs.Refusal.{_then_, observerNumber, imageNumber}
 use Rattle.image.specs.Image.{stateOf}
 use Rattle.monitor.specs.Calls.{Call}
-use Rattle.sheet.specs.Text.{ascii, decimal, lineRest}
+use Rattle.text.specs.Text.{ascii, decimal, lineRest}
 
 -- ---- the sheet: a heading and one line per used slot
 

@@ -2,7 +2,6 @@
 ghost use Prim.Native.Nat.{_≤_};
 ghost use mathlib.Core.Path.{_≡_};
 ghost use lib.ListN.{length};
-ghost use Rattle.wire.specs.Items.{encodeItems};
 ghost use Rattle.wire.specs.Output.{overwrite};
 ghost use Rattle.wire.specs.Inner.{written};
 ghost use Rattle.machine.specs.Limits.{sheetRoom};
@@ -10,7 +9,7 @@ ghost use Rattle.table.specs.Table.{slotsIn};
 ghost use Rattle.table.specs.Change.{taskAt};
 ghost use Rattle.monitor.specs.Calls.{CallPromise};
 ghost use Rattle.monitor.specs.Inner.{outputAnswer};
-ghost use Rattle.sheet.specs.Text.{decimal, spaced, lineRest};
+ghost use Rattle.text.specs.Text.{decimal, spaced, lineRest};
 ghost use Rattle.sheet.specs.Sheet.{sheetCall, refusalLine, printed};
 ghost use Rattle.sheet.specs.Inner.{shownTaskLine, shownLine, shownLines, shownSheet};
 
@@ -19,58 +18,6 @@ pub const SHEET_MAX: usize = 318;
 
 // The longest input that the program takes, in bytes.
 pub const INPUT_MAX: usize = 8192;
-
-// ---- numbers
-
-// Writes a number in decimal: how many digits.
-fn put_decimal(out: &mut [u8], x: u32) -> usize
-    requires { ⌜ length (decimal x) ≤ length (now out) ⌝ }
-    ensures { λ r. ⌜ (r ≡ length (decimal x)) × (now (out .exit) ≡ overwrite (decimal x) (now (out .entry))) ⌝ }
-{
-    if x < 10 {
-        out[0] = b'0' + (x % 10) as u8;
-        1
-    } else {
-        let n = put_decimal(out, x / 10);
-        out[n] = b'0' + (x % 10) as u8;
-        n + 1
-    }
-}
-
-// Writes a space and a number: how many bytes.
-fn put_spaced(out: &mut [u8], x: u32) -> usize
-    requires { ⌜ length (spaced x) ≤ length (now out) ⌝ }
-    ensures { λ r. ⌜ (r ≡ length (spaced x)) × (now (out .exit) ≡ overwrite (spaced x) (now (out .entry))) ⌝ }
-{
-    out[0] = b' ';
-    1 + put_decimal(&mut out[1..], x)
-}
-
-// Writes numbers, each behind a space: how many bytes.
-fn put_numbers(out: &mut [u8], numbers: &[u32]) -> usize
-    requires { ⌜ length (encodeItems spaced (now numbers)) ≤ length (now out) ⌝ }
-    ensures { λ r. ⌜ (r ≡ length (encodeItems spaced (now (numbers .entry))))
-        × (now (out .exit) ≡ overwrite (encodeItems spaced (now (numbers .entry))) (now (out .entry))) ⌝ }
-{
-    let mut at: usize = 0;
-    let mut i: usize = 0;
-    while i < numbers.len() {
-        at += put_spaced(&mut out[at..], numbers[i]);
-        i += 1;
-    }
-    at
-}
-
-// Writes the rest of a line, numbers and a line feed: how many bytes.
-fn put_line_rest(out: &mut [u8], numbers: &[u32]) -> usize
-    requires { ⌜ length (lineRest (now numbers)) ≤ length (now out) ⌝ }
-    ensures { λ r. ⌜ (r ≡ length (lineRest (now (numbers .entry))))
-        × (now (out .exit) ≡ overwrite (lineRest (now (numbers .entry))) (now (out .entry))) ⌝ }
-{
-    let n = put_numbers(out, numbers);
-    out[n] = b'\n';
-    n + 1
-}
 
 // ---- the sheet
 
@@ -86,8 +33,8 @@ fn put_task_line(out: &mut [u8], table: &table::Table, slot: u8, observer: u8) -
     let pc = table::pc(table, slot as usize);
     let mail = snapshot::mail_shown(table, slot as usize, observer);
     let fields: [u32; 5] = [kind as u32, label as u32, spare as u32, pc, mail as u32];
-    let n = put_decimal(out, slot as u32);
-    n + put_line_rest(&mut out[n..], &fields)
+    let n = text::put_decimal(out, slot as u32);
+    n + text::put_line_rest(&mut out[n..], &fields)
 }
 
 // Writes the line of a slot, where the observer sees a task in it: how many bytes.
@@ -179,7 +126,7 @@ fn put_refusal(out: &mut [u8], number: u8) -> usize
     ensures { λ r. ⌜ (r ≡ length (refusalLine number)) × (now (out .exit) ≡ overwrite (refusalLine number) (now (out .entry))) ⌝ }
 {
     wire::copy(out, b"refused");
-    WORD_LENGTH + put_line_rest(&mut out[WORD_LENGTH..], &[number as u32])
+    WORD_LENGTH + text::put_line_rest(&mut out[WORD_LENGTH..], &[number as u32])
 }
 
 // Writes all that the program prints for its standard input, an observer byte and then an image: how many bytes.

@@ -6,7 +6,7 @@ use native.Mathlib.Omega.{arith}
 use denote.Ref.{now}
 use Rattle.wire.specs.Lists.{tabulate}
 use Rattle.wire.proofs.Output.{FrontWritten, front-copied, part-inside, part-room, both-written, both-fit}
-use Rattle.sheet.specs.Text.{ascii, lineRest}
+use Rattle.text.specs.Text.{ascii, lineRest}
 use Rattle.sheet.specs.Sheet.{refusalLine}
 use Rattle.sheet.proofs.put_refusal.Statement.{statement}
 use Rattle.sheet.proofs.put_refusal.Tie as tie

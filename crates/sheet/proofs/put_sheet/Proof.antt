@@ -7,7 +7,7 @@ use denote.Ref.{now}
 use Rattle.wire.specs.Lists.{tabulate}
 use Rattle.wire.proofs.Output.{FrontWritten, front-copied, part-inside, part-room, both-written, both-fit}
 use Rattle.table.specs.Table.{slotsIn}
-use Rattle.sheet.specs.Text.{ascii}
+use Rattle.text.specs.Text.{ascii}
 use Rattle.sheet.specs.Sheet.{heading}
 use Rattle.sheet.specs.Inner.{shownLines, shownSheet}
 use Rattle.sheet.proofs.put_sheet.Statement.{statement}

@@ -8,7 +8,7 @@ use lib.ListN.{length, length-append}
 use Rattle.wire.proofs.Output.{FrontWritten, part-inside, part-room, both-written, both-fit, both-same}
 use Rattle.table.specs.Table.{slotsIn}
 use Rattle.table.specs.Change.{taskAt}
-use Rattle.sheet.specs.Text.{decimal, lineRest}
+use Rattle.text.specs.Text.{decimal, lineRest}
 use Rattle.sheet.specs.Inner.{shownTaskLine}
 use Rattle.sheet.proofs.Shown.{task-line}
 use Rattle.sheet.proofs.put_task_line.Statement.{statement}

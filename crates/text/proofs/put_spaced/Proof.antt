@@ -1,4 +1,4 @@
--- `sheet::put_spaced` meets its contract: the number is written behind the space.
+-- `text::put_spaced` meets its contract: the number is written behind the space.
 use borrow.Author.Needs.{needs}
 use mathlib.Core.Path.{refl}
 use mathlib.Core.List.{[], _∷_}
@@ -8,10 +8,10 @@ use lib.ListN.{set}
 use lib.Seq.{sets-eq}
 use Rattle.wire.specs.Lists.{tabulate}
 use Rattle.wire.proofs.Output.{FrontWritten, part-inside, part-room, both-written, both-fit, both-same}
-use Rattle.sheet.specs.Text.{ascii, decimal, spaced}
-use Rattle.sheet.proofs.Text.{length-spaced}
-use Rattle.sheet.proofs.put_spaced.Statement.{statement}
-use Rattle.sheet.proofs.put_spaced.Tie as tie
+use Rattle.text.specs.Text.{ascii, decimal, spaced}
+use Rattle.text.proofs.Text.{length-spaced}
+use Rattle.text.proofs.put_spaced.Statement.{statement}
+use Rattle.text.proofs.put_spaced.Tie as tie
 
 -- the space is stored
 front : (s : tie.Start) → FrontWritten (32 ∷ []) (decimal (s .args .x)) (now (s .args .out)) (set (now (s .args .out)) 0 32) 1

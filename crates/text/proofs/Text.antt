@@ -14,7 +14,7 @@ use Rattle.wire.proofs.Lists.{split}
 use Rattle.wire.proofs.Output.{stores-behind}
 use Rattle.wire.specs.Lists.{tabulate}
 use Rattle.wire.specs.Items.{encodeItems}
-use Rattle.sheet.specs.Text.{ascii, digits, decimal, spaced, lineRest}
+use Rattle.text.specs.Text.{ascii, digits, decimal, spaced, lineRest}
 
 -- more room for digits changes nothing
 digits-same : (k m x : ℕ) → x < k → x < m → digits k x ≡ digits m x

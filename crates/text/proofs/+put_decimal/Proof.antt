@@ -1,4 +1,4 @@
--- `sheet::put_decimal` meets its contract, by way of x / 10: its measure is the number.
+-- `text::put_decimal` meets its contract, by way of x / 10: its measure is the number.
 use Prim.Native.Nat.{ℕ, _<_}
 use mathlib.Core.Path.{sym, _∙_}
 use native.Mathlib.Omega.{arith}
@@ -6,12 +6,12 @@ use lib.ListN.{length-set}
 use denote.Ref.{now}
 use borrow.Fn.Kinds.{In}
 use borrow.Fn.PlainCycle.{Measures, is, falls, and}
-use Rattle.sheet.proofs.Text.{length-digit, length-more, digit-written, last-digit-written}
-use Rattle.sheet.proofs.put_decimal.Reads as put-decimal
-use Rattle.sheet.proofs.put_decimal.Kinds as put-decimal-kinds
-use Rattle.sheet.proofs.+put_decimal.Lts-put_decimal as put-decimal-lts
-use Rattle.sheet.proofs.+put_decimal.{statement}
-use Rattle.sheet.proofs.+put_decimal.Tie.{close}
+use Rattle.text.proofs.Text.{length-digit, length-more, digit-written, last-digit-written}
+use Rattle.text.proofs.put_decimal.Reads as put-decimal
+use Rattle.text.proofs.put_decimal.Kinds as put-decimal-kinds
+use Rattle.text.proofs.+put_decimal.Lts-put_decimal as put-decimal-lts
+use Rattle.text.proofs.+put_decimal.{statement}
+use Rattle.text.proofs.+put_decimal.Tie.{close}
 
 abbrev μ-put-decimal : Measures 1 put-decimal-kinds.ps ℕ
 μ-put-decimal κs a = a .1 .0

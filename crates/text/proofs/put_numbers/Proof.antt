@@ -1,12 +1,12 @@
--- `sheet::put_numbers` meets its contract: the first i numbers are written.
+-- `text::put_numbers` meets its contract: the first i numbers are written.
 use Prim.Native.Nat.{_-_, _≤_}
 use native.Mathlib.Omega.{arith}
 use denote.Ref.{now}
 use lib.ListN.{length}
 use Rattle.wire.proofs.Output.{ItemsWritten, items-none, item-room, item-part, items-more, items-size, items-all}
-use Rattle.sheet.specs.Text.{spaced}
-use Rattle.sheet.proofs.put_numbers.Statement.{statement}
-use Rattle.sheet.proofs.put_numbers.Tie as tie
+use Rattle.text.specs.Text.{spaced}
+use Rattle.text.proofs.put_numbers.Statement.{statement}
+use Rattle.text.proofs.put_numbers.Tie as tie
 
 abbrev Inv-loop : tie.InvT-loop
 Inv-loop out₀ numbers at₀ i₀ out at i = (i ≤ length numbers) × ItemsWritten spaced numbers out₀ out at i

@@ -1,4 +1,4 @@
--- `sheet::put_line_rest` meets its contract: the line feed is written behind the numbers.
+-- `text::put_line_rest` meets its contract: the line feed is written behind the numbers.
 use Prim.Native.Nat.{_+_, _≤_}
 use mathlib.Core.Path.{sym, _∙_}
 use mathlib.Core.List.{[], _∷_}
@@ -7,10 +7,10 @@ use denote.Ref.{now}
 use lib.ListN.{length, length-set}
 use Rattle.wire.specs.Items.{encodeItems}
 use Rattle.wire.proofs.Output.{stores-behind}
-use Rattle.sheet.specs.Text.{spaced}
-use Rattle.sheet.proofs.Text.{line-parts, length-line}
-use Rattle.sheet.proofs.put_line_rest.Statement.{statement}
-use Rattle.sheet.proofs.put_line_rest.Tie as tie
+use Rattle.text.specs.Text.{spaced}
+use Rattle.text.proofs.Text.{line-parts, length-line}
+use Rattle.text.proofs.put_line_rest.Statement.{statement}
+use Rattle.text.proofs.put_line_rest.Tie as tie
 
 slice-write-out : tie.Need-slice-write-out
 slice-write-out c =

@@ -1,0 +1,2 @@
+-- The laws of the crate `text`, a file each.
+pub mod Text
