@@ -75,4 +75,6 @@ pub record Examples : Type 0 where
   -- "Then 11, 12": 11 ahead of 12
   pub order : imageNumber (image (two 3 (task 0 2 0) 5 (task 0 0 0)) ++ (0 ∷ [])) ≡ 11
   -- "Order: 1 or 2 first [..]. Then the image from front to back [..] 13": each ahead of the next, where all are met
-  pub call : (firstMet 1 [] (0 ∷ []) [] ≡ 1) × (firstMet 0 [] (0 ∷ []) [] ≡ 3) × (firstMet 0 emptyImage (0 ∷ []) [] ≡ 13)
+  pub call : (firstMet 1 (imageNumber []) (0 ∷ []) [] ≡ 1)
+      × (firstMet 0 (imageNumber []) (0 ∷ []) [] ≡ 3)
+      × (firstMet 0 (imageNumber emptyImage) (0 ∷ []) [] ≡ 13)

@@ -118,7 +118,7 @@ imageNumber b =
     then tailNumber b
     then estateNumber b
 
--- a call's number, given that of its arguments, 0 where they are within their limits or there are none;
+-- a call's number, given that of its arguments, 0 where they are within their limits or there are none, and that of what it reads;
 -- 13 output: output shorter than the answer
-abbrev pub firstMet : ℕ → List ℕ → List ℕ → List ℕ → ℕ
-firstMet argument image answer out = argument then imageNumber image then unless (leb (length answer) (length out)) 13
+abbrev pub firstMet : ℕ → ℕ → List ℕ → List ℕ → ℕ
+firstMet argument input answer out = argument then input then unless (leb (length answer) (length out)) 13

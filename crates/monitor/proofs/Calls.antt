@@ -16,7 +16,6 @@ use Rattle.wire.proofs.Output.{take-overwrite, drop-overwrite, length-overwrite
 use Rattle.machine.specs.Limits.{highestLabel, highestSlot}
 use Rattle.image.specs.Refusal.{observerNumber, postNumber, _then_, unless, imageNumber}
 use Rattle.image.proofs.Refusal.{then-stop, then-left, then-right, then-holds, unless-holds, unless-none, unless-given, Listed, listed-not}
-use Rattle.image.proofs.Image.{image-listed}
 use Rattle.monitor.specs.declared.Answer.{Answer}
 use Rattle.monitor.specs.Calls.{Call, callNumber, refusal, callAnswer, callOutput, CallPromise}
 use Rattle.monitor.specs.Inner.{outputAnswer}
@@ -34,9 +33,9 @@ module _ (b out : List ℕ) (busy : ℕ) {r : ℕ} {after : List ℕ} (size : r 
   pub told-13 : length after < r → {told : Answer} → told ≡ refusal 13 → told ≡ outputAnswer b busy out
   told-13 h e = rw (lt-leb (length b) (length out) (omega (arith, size, same-size))) e
 
--- ---- which number was given: the arguments' a, the image's i, or 13 where the test t of the output fails
+-- ---- which number was given: the arguments' a, the input's i, or 13 where the test t of the output fails
 
--- a number that the image and the output leave to the arguments
+-- a number that the input and the output leave to the arguments
 abbrev pub LeftToArguments : ℕ → Type 0
 LeftToArguments a = 3 ≤ a → a ≤ 13 → ⊥
 
@@ -115,52 +114,52 @@ module _ (c : Call) (out : List ℕ) where
   fits = leb (length (c .bytes)) (length out)
 
   -- the parts of the number, in their order
-  first-met : callAnswer c out .number ≡ (c .argumentNumber then imageNumber (c .image) then unless fits 13)
+  first-met : callAnswer c out .number ≡ (c .argumentNumber then c .inputNumber then unless fits 13)
   unfolding callNumber
   first-met = answer-number
 
   -- an accepted call
-  pub accepted-exactly : Exactly (callAnswer c out .number ≡ 0) ((c .argumentNumber ≡ 0) × (imageNumber (c .image) ≡ 0) × (length (c .bytes) ≤ length out))
+  pub accepted-exactly : Exactly (callAnswer c out .number ≡ 0) ((c .argumentNumber ≡ 0) × (c .inputNumber ≡ 0) × (length (c .bytes) ≤ length out))
   accepted-exactly = (
     λ e.
         let i = then-right (c .argumentNumber) _ (sym first-met ∙ e) in
-        let o = then-right (imageNumber (c .image)) _ i in (
+        let o = then-right (c .inputNumber) _ i in (
           then-left (c .argumentNumber) _ (sym first-met ∙ e),
-          then-left (imageNumber (c .image)) _ i,
+          then-left (c .inputNumber) _ i,
           leb-true _ _ (unless-none fits 12 o),
         ),
     λ h. first-met ∙ rw (h .0, h .1, le-leb (length (c .bytes)) (length out) (h .2)),
   )
 
-  -- every number that is not the image's or the output's comes from the arguments
-  pub argument-exactly : (k : ℕ) → 1 ≤ k → LeftToArguments k → Exactly (callAnswer c out .number ≡ k) (c .argumentNumber ≡ k)
-  argument-exactly k some other = (
-    λ e. then-argument (c .argumentNumber) (imageNumber (c .image)) fits k (image-listed (c .image)) some other (sym first-met ∙ e),
+  -- every number that is not the input's or the output's comes from the arguments
+  pub argument-exactly : Listed (c .inputNumber) → (k : ℕ) → 1 ≤ k → LeftToArguments k → Exactly (callAnswer c out .number ≡ k) (c .argumentNumber ≡ k)
+  argument-exactly listed k some other = (
+    λ e. then-argument (c .argumentNumber) (c .inputNumber) fits k listed some other (sym first-met ∙ e),
     λ e. first-met ∙ rw e (then-stop k (λ z. omega arith) _),
   )
 
-  pub numbers-by-cause : LeftToArguments (c .argumentNumber) → NumbersByCause c out
-  numbers-by-cause argument = record {
+  pub numbers-by-cause : LeftToArguments (c .argumentNumber) → Listed (c .inputNumber) → NumbersByCause c out
+  numbers-by-cause argument listed = record {
     accepted = accepted-exactly;
-    fromArgument = argument-exactly;
-    fromImage = λ k low high. (
-      λ e. then-image (c .argumentNumber) (imageNumber (c .image)) fits k argument low high (sym first-met ∙ e),
+    fromArgument = argument-exactly listed;
+    fromInput = λ k low high. (
+      λ e. then-image (c .argumentNumber) (c .inputNumber) fits k argument low high (sym first-met ∙ e),
       λ h. first-met ∙ rw (h .0, h .1) (then-stop k (λ z. omega arith) _),
     );
     fromOutput = (
       λ e.
-          let o = then-output (c .argumentNumber) (imageNumber (c .image)) fits argument (image-listed (c .image) .most) (sym first-met ∙ e) in
+          let o = then-output (c .argumentNumber) (c .inputNumber) fits argument (listed .most) (sym first-met ∙ e) in
           (o .0, o .1, leb-false _ _ (o .2)),
       λ h. first-met ∙ rw (h .0, h .1, lt-leb (length (c .bytes)) (length out) (h .2)),
     );
   }
 
   -- the argument x has the number k where it is beyond its limit
-  pub limit-exactly : (x limit k : ℕ) → c .argumentNumber ≡ unless (leb x limit) k → 1 ≤ k → LeftToArguments k
+  pub limit-exactly : Listed (c .inputNumber) → (x limit k : ℕ) → c .argumentNumber ≡ unless (leb x limit) k → 1 ≤ k → LeftToArguments k
       → Exactly (callAnswer c out .number ≡ k) (limit < x)
-  limit-exactly x limit k e some other = (
-    λ told. leb-false x limit (unless-given (leb x limit) k some (sym e ∙ argument-exactly k some other .0 told)),
-    λ beyond. argument-exactly k some other .1 (e ∙ rw (lt-leb x limit beyond)),
+  limit-exactly listed x limit k e some other = (
+    λ told. leb-false x limit (unless-given (leb x limit) k some (sym e ∙ argument-exactly listed k some other .0 told)),
+    λ beyond. argument-exactly listed k some other .1 (e ∙ rw (lt-leb x limit beyond)),
   )
 
   -- the bytes that the call writes, none where it is refused
@@ -174,8 +173,9 @@ module _ (c : Call) (out : List ℕ) where
   output-accepted e = rw (sym answer-number ∙ e)
 
   -- of bytes, number 0 tells an accepted image
-  pub number-0-accepted : {number : ℕ} → number ≡ callAnswer c out .number → Bytes (c .image) → number ≡ 0 → Accepted (c .image)
-  number-0-accepted told bytes none = record { bytes = bytes; number = accepted-exactly .0 (sym told ∙ none) .1 }
+  pub number-0-accepted : (image : List ℕ) → c .inputNumber ≡ imageNumber image
+      → {number : ℕ} → number ≡ callAnswer c out .number → Bytes image → number ≡ 0 → Accepted image
+  number-0-accepted image input told bytes none = record { bytes = bytes; number = sym input ∙ accepted-exactly .0 (sym told ∙ none) .1 }
 
   -- a call that runs no turn tells busy count 0
   pub busy-0 : c .busy ≡ 0 → callAnswer c out .busy ≡ 0
@@ -205,17 +205,16 @@ module _ (c : Call) (out : List ℕ) where
         size = refl;
       })
 
-  -- what holds of the argument's number, the image's, 0 and 13 holds of the number told
-  pub number-holds : (P : ℕ → Type 0) → P (c .argumentNumber) → P (imageNumber (c .image)) → P 0 → P 13 → P (callAnswer c out .number)
+  -- what holds of the argument's number, the input's, 0 and 13 holds of the number told
+  pub number-holds : (P : ℕ → Type 0) → P (c .argumentNumber) → P (c .inputNumber) → P 0 → P 13 → P (callAnswer c out .number)
   unfolding callNumber
   number-holds P a i z o =
       rw answer-number
-      (then-holds P (c .argumentNumber) _ a (then-holds P (imageNumber (c .image)) _ i (unless-holds P (leb (length (c .bytes)) (length out)) 13 z o)))
+      (then-holds P (c .argumentNumber) _ a (then-holds P (c .inputNumber) _ i (unless-holds P (leb (length (c .bytes)) (length out)) 13 z o)))
 
   -- of a call for an observer: 0, or a number of the table other than 2
-  pub observer-listed : (v : ℕ) → c .argumentNumber ≡ observerNumber v → (callAnswer c out .number ≤ 13) × (callAnswer c out .number ≢ 2)
-  observer-listed v e =
-      let i = image-listed (c .image) in
+  pub observer-listed : Listed (c .inputNumber) → (v : ℕ) → c .argumentNumber ≡ observerNumber v → (callAnswer c out .number ≤ 13) × (callAnswer c out .number ≢ 2)
+  observer-listed i v e =
       number-holds (λ x. (x ≤ 13) × (x ≢ 2))
       (rw e (unless-holds (λ x. (x ≤ 13) × (x ≢ 2)) (leb v highestLabel) 1 (omega arith, λ z. omega arith) (omega arith, λ z. omega arith)))
       (omega (arith, i .most), listed-not _ 2 i (omega arith) (omega arith)) (omega arith, λ z. omega arith) (omega arith, λ z. omega arith)
@@ -225,29 +224,29 @@ module _ (c : Call) (out : List ℕ) where
   pub call-beyond : {k : ℕ} → k ≡ c .argumentNumber → k ≢ 0 → {r : Answer} → r ≡ refusal k → CallPromise c out r out
   unfolding callAnswer callOutput callNumber
   call-beyond {k} beyond some told =
-      rw (told, ← beyond, then-stop k some (imageNumber (c .image) then unless (leb (length (c .bytes)) (length out)) 13), ne-eqb k 0 some) (refl, refl)
+      rw (told, ← beyond, then-stop k some (c .inputNumber then unless (leb (length (c .bytes)) (length out)) 13), ne-eqb k 0 some) (refl, refl)
 
   -- ---- a call whose arguments are within their limits
 
   module _ (argument : c .argumentNumber ≡ 0) where
-    -- its image is refused
-    pub call-refused : {r : Answer} {k : ℕ} → k ≡ imageNumber (c .image) → k ≢ 0 → r ≡ refusal k
+    -- what it reads is refused
+    pub call-refused : {r : Answer} {k : ℕ} → k ≡ c .inputNumber → k ≢ 0 → r ≡ refusal k
         → CallPromise c out r out
     unfolding callAnswer callOutput callNumber
     call-refused {k = k} number refused told =
         rw (told, argument, ← number, then-stop k refused (unless (leb (length (c .bytes)) (length out)) 13), ne-eqb k 0 refused) (refl, refl)
 
-    -- its image is accepted, and its bytes are written where the output has room for them
-    pub call-accepted : imageNumber (c .image) ≡ 0 → {b after : List ℕ} {k : ℕ} {r : Answer} → b ≡ c .bytes → k ≡ c .busy
+    -- what it reads is accepted, and its bytes are written where the output has room for them
+    pub call-accepted : c .inputNumber ≡ 0 → {b after : List ℕ} {k : ℕ} {r : Answer} → b ≡ c .bytes → k ≡ c .busy
         → (r ≡ outputAnswer b k out) × (after ≡ written b out)
         → CallPromise c out r after
     unfolding callAnswer callOutput callNumber
     call-accepted accepted {b} same counted w =
         rw (argument, accepted, ← same, ← counted, w .0, w .1) (split (leb (length b) (length out)) (λ e. rw e (refl, refl)) (λ e. rw e (refl, refl)))
 
--- ---- two calls with the same argument's number, bytes and busy count, of images that get the same number
+-- ---- two calls with the same argument's number, bytes and busy count, of what gets the same number
 
-module _ (c c′ : Call) (argument : c .argumentNumber ≡ c′ .argumentNumber) (number : imageNumber (c .image) ≡ imageNumber (c′ .image))
+module _ (c c′ : Call) (argument : c .argumentNumber ≡ c′ .argumentNumber) (number : c .inputNumber ≡ c′ .inputNumber)
     (bytes : c .bytes ≡ c′ .bytes) (busy : c .busy ≡ c′ .busy) where
   module _ (out out′ : List ℕ) (room : length out ≡ length out′) where
     number-same : callNumber c out ≡ callNumber c′ out′

@@ -50,7 +50,7 @@ numbers-are-listed image out =
       λ n. number-holds (turnsCall n image) out (λ x. (x ≤ 13) × (x ≢ 1))
           (unless-holds (λ x. (x ≤ 13) × (x ≢ 1)) (leb n turnLimit) 2 (omega arith, λ e. omega arith) (omega arith, λ e. omega arith))
           (omega (arith, i .most), not-1) (omega arith, λ e. omega arith) (omega arith, λ e. omega arith),
-      λ v. observer-listed (viewCall v image) out v refl,
+      λ v. observer-listed (viewCall v image) out i v refl,
       λ slot label value. number-holds (postCall slot label value image) out OfPost
           (then-holds OfPost (unless (leb slot highestSlot) 14) (unless (leb label highestLabel) 15)
           (unless-holds OfPost (leb slot highestSlot) 14 of-0 (omega arith, λ e. omega arith, λ e. omega arith))
@@ -60,11 +60,11 @@ numbers-are-listed image out =
 
 pub limits-are-refused : LimitsAreRefused
 limits-are-refused image out = (
-  λ v. limit-exactly (viewCall v image) out v highestLabel 1 refl (omega arith) (λ low high. omega arith),
-  λ n. limit-exactly (turnsCall n image) out n turnLimit 2 refl (omega arith) (λ low high. omega arith),
+  λ v. limit-exactly (viewCall v image) out (image-listed image) v highestLabel 1 refl (omega arith) (λ low high. omega arith),
+  λ n. limit-exactly (turnsCall n image) out (image-listed image) n turnLimit 2 refl (omega arith) (λ low high. omega arith),
   λ slot label value.
-      let told-14 = argument-exactly (postCall slot label value image) out 14 (omega arith) (λ low high. omega arith) in
-      let told-15 = argument-exactly (postCall slot label value image) out 15 (omega arith) (λ low high. omega arith) in (
+      let told-14 = argument-exactly (postCall slot label value image) out (image-listed image) 14 (omega arith) (λ low high. omega arith) in
+      let told-15 = argument-exactly (postCall slot label value image) out (image-listed image) 15 (omega arith) (λ low high. omega arith) in (
         (λ e. slot-given slot label (told-14 .0 e), λ h. told-14 .1 (rw (lt-leb slot highestSlot h))),
         (λ e. label-given slot label (told-15 .0 e), λ h. told-15 .1 (rw (le-leb slot highestSlot (h .0), lt-leb label highestLabel (h .1)))),
       ),
@@ -72,10 +72,10 @@ limits-are-refused image out = (
 
 pub none-in-any-other-event : NoneInAnyOtherEvent
 none-in-any-other-event image out = (
-  numbers-by-cause (rewriteCall image) out (λ low high. omega arith),
-  λ n. numbers-by-cause (turnsCall n image) out (limit-number n turnLimit 2 (λ low high. omega arith)),
-  λ v. numbers-by-cause (viewCall v image) out (observer-number v),
-  λ slot label value. numbers-by-cause (postCall slot label value image) out (post-number slot label),
+  numbers-by-cause (rewriteCall image) out (λ low high. omega arith) (image-listed image),
+  λ n. numbers-by-cause (turnsCall n image) out (limit-number n turnLimit 2 (λ low high. omega arith)) (image-listed image),
+  λ v. numbers-by-cause (viewCall v image) out (observer-number v) (image-listed image),
+  λ slot label value. numbers-by-cause (postCall slot label value image) out (post-number slot label) (image-listed image),
 )
 
 -- a valid state's image has at most 7,796 bytes

@@ -11,20 +11,20 @@ use Rattle.wire.specs.Output.{overwrite}
 use Rattle.machine.specs.Post.{post, delivered}
 use Rattle.machine.specs.Machine.{turns, busy, view}
 use Rattle.image.specs.Image.{stateOf, imageBytes}
-use Rattle.image.specs.Refusal.{observerNumber, turnLimitNumber, postNumber, firstMet}
+use Rattle.image.specs.Refusal.{observerNumber, turnLimitNumber, postNumber, imageNumber, firstMet}
 use Rattle.monitor.specs.declared.Answer.{Answer}
 use Rattle.monitor.specs.declared.PostAnswer.{PostAnswer}
 
--- a call: the number of its arguments, 0 where they are within their limits or there are none; its image; the bytes to write; the
--- busy count
+-- a call: the number of its arguments, 0 where they are within their limits or there are none; the number of what it reads, of the
+-- monitor's calls an image; the bytes to write; the busy count
 pub record Call : Type 0 where
   pub argumentNumber : ℕ
-  pub image : List ℕ
+  pub inputNumber : ℕ
   pub bytes : List ℕ
   pub busy : ℕ
 
 unfoldable pub callNumber : Call → List ℕ → ℕ
-callNumber c out = firstMet (c .argumentNumber) (c .image) (c .bytes) out
+callNumber c out = firstMet (c .argumentNumber) (c .inputNumber) (c .bytes) out
 
 -- a refused call tells its number, length 0 and busy count 0; an accepted one tells number 0
 abbrev pub refusal : ℕ → Answer
@@ -47,19 +47,19 @@ CallPromise c out told after = (told ≡ callAnswer c out) × (after ≡ callOut
 -- ---- rewrite: the image again as it was read
 
 abbrev pub rewriteCall : List ℕ → Call
-rewriteCall image = record { argumentNumber = 0; image = image; bytes = imageBytes (stateOf image); busy = 0 }
+rewriteCall image = record { argumentNumber = 0; inputNumber = imageNumber image; bytes = imageBytes (stateOf image); busy = 0 }
 
 -- ---- turns: the image after n turns
 
 abbrev pub turnsCall : ℕ → List ℕ → Call
 turnsCall n image =
-    record { argumentNumber = turnLimitNumber n; image = image; bytes = imageBytes (turns n (stateOf image)); busy = busy n (stateOf image) }
+    record { argumentNumber = turnLimitNumber n; inputNumber = imageNumber image; bytes = imageBytes (turns n (stateOf image)); busy = busy n (stateOf image) }
 
 -- ---- post: the image once the host's message has gone to a slot (02, U1)
 
 abbrev pub postCall : ℕ → ℕ → ℕ → List ℕ → Call
 postCall slot label value image =
-    record { argumentNumber = postNumber slot label; image = image; bytes = imageBytes (post slot label value (stateOf image)); busy = 0 }
+    record { argumentNumber = postNumber slot label; inputNumber = imageNumber image; bytes = imageBytes (post slot label value (stateOf image)); busy = 0 }
 
 -- "The answer says delivered or dropped [..]; a refusal says dropped."
 abbrev pub postDelivered : ℕ → ℕ → ℕ → List ℕ → List ℕ → Bool
@@ -77,4 +77,4 @@ abbrev pub viewBytes : ℕ → List ℕ → List ℕ
 viewBytes v image = imageBytes (view v (stateOf image))
 
 abbrev pub viewCall : ℕ → List ℕ → Call
-viewCall v image = record { argumentNumber = observerNumber v; image = image; bytes = viewBytes v image; busy = 0 }
+viewCall v image = record { argumentNumber = observerNumber v; inputNumber = imageNumber image; bytes = viewBytes v image; busy = 0 }

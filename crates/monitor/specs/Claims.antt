@@ -58,12 +58,12 @@ LimitsAreRefused =
     × Exactly (callAnswer (postCall slot label value image) out .number ≡ 15) ((slot ≤ highestSlot) × (highestLabel < label)))
 
 -- "The first met is given; none of them in any other event": each number of a call by what gives it. 3 to 12 come from the image
--- alone, where the arguments have none; 13 from the output, where neither has one; every other from the arguments alone
+-- alone, or what else it reads, where the arguments have none; 13 from the output, where neither has one; every other from the arguments alone
 pub record NumbersByCause (c : Call) (out : List ℕ) : Type 0 where
-  pub accepted : Exactly (callAnswer c out .number ≡ 0) ((c .argumentNumber ≡ 0) × (imageNumber (c .image) ≡ 0) × (length (c .bytes) ≤ length out))
+  pub accepted : Exactly (callAnswer c out .number ≡ 0) ((c .argumentNumber ≡ 0) × (c .inputNumber ≡ 0) × (length (c .bytes) ≤ length out))
   pub fromArgument : (k : ℕ) → 1 ≤ k → (3 ≤ k → k ≤ 13 → ⊥) → Exactly (callAnswer c out .number ≡ k) (c .argumentNumber ≡ k)
-  pub fromImage : (k : ℕ) → 3 ≤ k → k ≤ 12 → Exactly (callAnswer c out .number ≡ k) ((c .argumentNumber ≡ 0) × (imageNumber (c .image) ≡ k))
-  pub fromOutput : Exactly (callAnswer c out .number ≡ 13) ((c .argumentNumber ≡ 0) × (imageNumber (c .image) ≡ 0) × (length out < length (c .bytes)))
+  pub fromInput : (k : ℕ) → 3 ≤ k → k ≤ 12 → Exactly (callAnswer c out .number ≡ k) ((c .argumentNumber ≡ 0) × (c .inputNumber ≡ k))
+  pub fromOutput : Exactly (callAnswer c out .number ≡ 13) ((c .argumentNumber ≡ 0) × (c .inputNumber ≡ 0) × (length out < length (c .bytes)))
 
 abbrev pub NoneInAnyOtherEvent : Type 0
 NoneInAnyOtherEvent =

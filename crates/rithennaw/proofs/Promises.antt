@@ -69,26 +69,26 @@ module _ {M : Type 1} where
   rithennaw-record-keeps = RecordMet.met
 
   pub rithennaw-rewrite-keeps : Keeps M Rewrite.ended RewriteCode.routine
-      (λ κs a r e. Told (rewriteCall (now (imageOf a))) (now (soleOutputOf a)) r (now (soleLengthOf e)) (now (soleOutputOf e)))
+      (λ κs a r e. Told (now (imageOf a)) (rewriteCall (now (imageOf a))) (now (soleOutputOf a)) r (now (soleLengthOf e)) (now (soleOutputOf e)))
   rithennaw-rewrite-keeps = RewriteMet.met
 
   pub rithennaw-turns-keeps : Keeps M Turns.ended TurnsCode.routine
-      (λ κs a r e. Told (turnsCall (countOf a) (now (imageOf a))) (now (outputOf a)) r (now (lengthOf e)) (now (outputOf e))
+      (λ κs a r e. Told (now (imageOf a)) (turnsCall (countOf a) (now (imageOf a))) (now (outputOf a)) r (now (lengthOf e)) (now (outputOf e))
       × (now (busyOf e) ≡ callAnswer (turnsCall (countOf a) (now (imageOf a))) (now (outputOf a)) .busy))
   rithennaw-turns-keeps = TurnsMet.met
 
   pub rithennaw-post-keeps : Keeps M Post.ended PostCode.routine
-      (λ κs a r e. Told (postCall (slotNumberOf a) (labelOf a) (valueOf a) (now (imageOf a))) (now (postOutputOf a)) r (now (postLengthOf e)) (now (postOutputOf e))
+      (λ κs a r e. Told (now (imageOf a)) (postCall (slotNumberOf a) (labelOf a) (valueOf a) (now (imageOf a))) (now (postOutputOf a)) r (now (postLengthOf e)) (now (postOutputOf e))
       × (now (deliveredOf e) ≡ cond (postDelivered (slotNumberOf a) (labelOf a) (valueOf a) (now (imageOf a)) (now (postOutputOf a))) 1 0)
       × Fits (askPost (slotNumberOf a) (labelOf a) (valueOf a)))
   rithennaw-post-keeps = PostMet.met
 
   pub rithennaw-view-keeps : Keeps M View.ended ViewCode.routine
-      (λ κs a r e. Told (viewCall (observerOf a) (now (imageOf a))) (now (outputOf a)) r (now (lengthOf e)) (now (outputOf e)))
+      (λ κs a r e. Told (now (imageOf a)) (viewCall (observerOf a) (now (imageOf a))) (now (outputOf a)) r (now (lengthOf e)) (now (outputOf e)))
   rithennaw-view-keeps = ViewMet.met
 
   pub rithennaw-sheet-keeps : Keeps M Sheet.ended SheetCode.routine
-      (λ κs a r e. Told (sheetCall (observerOf a) (now (imageOf a))) (now (outputOf a)) r (now (lengthOf e)) (now (outputOf e)))
+      (λ κs a r e. Told (now (imageOf a)) (sheetCall (observerOf a) (now (imageOf a))) (now (outputOf a)) r (now (lengthOf e)) (now (outputOf e)))
   rithennaw-sheet-keeps = SheetMet.met
 
 -- ---- from what they told to what the claims are about
@@ -99,7 +99,7 @@ check-accepted image told = (λ none. record { bytes = told .1; number = sym (to
 
 -- What a call told and wrote keeps the promise. That its number 0 tells an accepted image is monitor's law `number-0-accepted`,
 -- since the call promises that the image is bytes.
-module _ (c : Call) (out : List ℕ) {number length : ℕ} {after : List ℕ} (told : Told c out number length after) where
+module _ (input : List ℕ) (c : Call) (out : List ℕ) {number length : ℕ} {after : List ℕ} (told : Told input c out number length after) where
   -- number, length and busy count are the answer
   pub told-promise : {busy : ℕ} → busy ≡ callAnswer c out .busy → CallPromise c out (record { number = number; length = length; busy = busy }) after
   told-promise counted = (λ i. record { number = told .0 i; length = told .1 i; busy = counted i }, told .2)
@@ -111,13 +111,13 @@ module _ (c : Call) (out : List ℕ) {number length : ℕ} {after : List ℕ} (t
 -- ---- and to the lists of the secrecy rule: what `rithennaw_turns` and `rithennaw_post` promise makes a call of a list
 
 pub turns-kept : (n : ℕ) (image out : List ℕ) {number length busy : ℕ} {after : List ℕ}
-    → Told (turnsCall n image) out number length after × (busy ≡ callAnswer (turnsCall n image) out .busy)
+    → Told image (turnsCall n image) out number length after × (busy ≡ callAnswer (turnsCall n image) out .busy)
     → KeptPromise (record { request = askTurns n; out = out; told = record { number = number; length = length; busy = busy }; after = after }) image
-turns-kept n image out told = (tt, told-promise (turnsCall n image) out (told .0) (told .1))
+turns-kept n image out told = (tt, told-promise image (turnsCall n image) out (told .0) (told .1))
 
 pub post-kept : (slot label value : ℕ) (image out : List ℕ) {number length delivered : ℕ} {after : List ℕ}
-    → Told (postCall slot label value image) out number length after
+    → Told image (postCall slot label value image) out number length after
     × (delivered ≡ cond (postDelivered slot label value image out) 1 0)
     × Fits (askPost slot label value)
     → KeptPromise (record { request = askPost slot label value; out = out; told = record { number = number; length = length; busy = 0 }; after = after }) image
-post-kept slot label value image out told = (told .2, told-promise-0 (postCall slot label value image) out (told .0) refl)
+post-kept slot label value image out told = (told .2, told-promise-0 image (postCall slot label value image) out (told .0) refl)

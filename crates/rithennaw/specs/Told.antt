@@ -5,7 +5,8 @@ use mathlib.Core.List.{List}
 use Rattle.wire.specs.Lists.{Bytes}
 use Rattle.monitor.specs.Calls.{Call, callAnswer, callOutput}
 
--- the call's number and length, its output afterwards, and that the image is bytes: with number 0 that makes an accepted image
-abbrev pub Told : Call → List ℕ → ℕ → ℕ → List ℕ → Type 0
-Told c out number length after =
-    (number ≡ callAnswer c out .number) × (length ≡ callAnswer c out .length) × (after ≡ callOutput c out) × Bytes (c .image)
+-- the call's number and length, its output afterwards, and that what it read is bytes: of an image with number 0 that makes an
+-- accepted one
+abbrev pub Told : List ℕ → Call → List ℕ → ℕ → ℕ → List ℕ → Type 0
+Told input c out number length after =
+    (number ≡ callAnswer c out .number) × (length ≡ callAnswer c out .length) × (after ≡ callOutput c out) × Bytes input

@@ -34,7 +34,7 @@ pub extern "C" fn rithennaw_record(image: &[u8], slot: u32, start: &mut usize, l
 // Writes an image again as it was read.
 #[no_mangle]
 pub extern "C" fn rithennaw_rewrite(image: &[u8], out: &mut [u8], length: &mut usize) -> u8
-    ensures { λ r. ⌜ Told (rewriteCall (now (image .entry))) (now (out .entry)) r (now (length .exit)) (now (out .exit)) ⌝ }
+    ensures { λ r. ⌜ Told (now (image .entry)) (rewriteCall (now (image .entry))) (now (out .entry)) r (now (length .exit)) (now (out .exit)) ⌝ }
 {
     let rewritten = monitor::rewrite(image, out);
     *length = rewritten.length;
@@ -50,7 +50,7 @@ pub extern "C" fn rithennaw_turns(
     length: &mut usize,
     busy: &mut u64,
 ) -> u8
-    ensures { λ r. ⌜ Told (turnsCall count (now (image .entry))) (now (out .entry)) r (now (length .exit)) (now (out .exit))
+    ensures { λ r. ⌜ Told (now (image .entry)) (turnsCall count (now (image .entry))) (now (out .entry)) r (now (length .exit)) (now (out .exit))
         × (now (busy .exit) ≡ callAnswer (turnsCall count (now (image .entry))) (now (out .entry)) .busy) ⌝ }
 {
     let turned = monitor::turns(image, count, out);
@@ -71,7 +71,7 @@ pub extern "C" fn rithennaw_post(
     length: &mut usize,
     delivered: &mut u8,
 ) -> u8
-    ensures { λ r. ⌜ Told (postCall slot label value (now (image .entry))) (now (out .entry)) r (now (length .exit)) (now (out .exit))
+    ensures { λ r. ⌜ Told (now (image .entry)) (postCall slot label value (now (image .entry))) (now (out .entry)) r (now (length .exit)) (now (out .exit))
         × (now (delivered .exit) ≡ cond (postDelivered slot label value (now (image .entry)) (now (out .entry))) 1 0)
         × Fits (askPost slot label value) ⌝ }
 {
@@ -89,7 +89,7 @@ pub extern "C" fn rithennaw_view(
     out: &mut [u8],
     length: &mut usize,
 ) -> u8
-    ensures { λ r. ⌜ Told (viewCall observer (now (image .entry))) (now (out .entry)) r (now (length .exit)) (now (out .exit)) ⌝ }
+    ensures { λ r. ⌜ Told (now (image .entry)) (viewCall observer (now (image .entry))) (now (out .entry)) r (now (length .exit)) (now (out .exit)) ⌝ }
 {
     let viewed = monitor::view(image, observer, out);
     *length = viewed.length;
@@ -104,7 +104,7 @@ pub extern "C" fn rithennaw_sheet(
     out: &mut [u8],
     length: &mut usize,
 ) -> u8
-    ensures { λ r. ⌜ Told (sheetCall observer (now (image .entry))) (now (out .entry)) r (now (length .exit)) (now (out .exit)) ⌝ }
+    ensures { λ r. ⌜ Told (now (image .entry)) (sheetCall observer (now (image .entry))) (now (out .entry)) r (now (length .exit)) (now (out .exit)) ⌝ }
 {
     let listed = sheet::write(image, observer, out);
     *length = listed.length;

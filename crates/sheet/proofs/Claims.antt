@@ -2,6 +2,7 @@
 use mathlib.Core.Path.{refl, sym, ap, _∙_}
 use native.Mathlib.Omega.{arith}
 use Rattle.machine.specs.Limits.{highestLabel}
+use Rattle.image.proofs.Image.{image-listed}
 use Rattle.monitor.specs.CallList.{finalImage}
 use Rattle.monitor.proofs.Calls.{observer-listed, observer-number, numbers-by-cause, limit-exactly, tell-the-same}
 use Rattle.monitor.proofs.Secrecy.{equal-bytes, states-same}
@@ -11,13 +12,13 @@ use Rattle.sheet.specs.Claims.{SheetNumbersAreListed, SheetLimitIsRefuse
 use Rattle.sheet.proofs.Sheet.{sheet-fits}
 
 pub sheet-numbers-are-listed : SheetNumbersAreListed
-sheet-numbers-are-listed v image out = observer-listed (sheetCall v image) out v refl
+sheet-numbers-are-listed v image out = observer-listed (sheetCall v image) out (image-listed image) v refl
 
 pub sheet-limit-is-refused : SheetLimitIsRefused
-sheet-limit-is-refused v image out = limit-exactly (sheetCall v image) out v highestLabel 1 refl (omega arith) (λ low high. omega arith)
+sheet-limit-is-refused v image out = limit-exactly (sheetCall v image) out (image-listed image) v highestLabel 1 refl (omega arith) (λ low high. omega arith)
 
 pub sheet-numbers-by-cause : SheetNumbersByCause
-sheet-numbers-by-cause v image out = numbers-by-cause (sheetCall v image) out (observer-number v)
+sheet-numbers-by-cause v image out = numbers-by-cause (sheetCall v image) out (observer-number v) (image-listed image)
 
 pub sheets-fit : SheetLength
 sheets-fit v image a = sheet-fits v image (a .bytes) (a .number)

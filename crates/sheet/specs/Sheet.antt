@@ -36,7 +36,7 @@ abbrev pub sheetBytes : ℕ → List ℕ → List ℕ
 sheetBytes v image = sheetText (view v (stateOf image))
 
 abbrev pub sheetCall : ℕ → List ℕ → Call
-sheetCall v image = record { argumentNumber = observerNumber v; image = image; bytes = sheetBytes v image; busy = 0 }
+sheetCall v image = record { argumentNumber = observerNumber v; inputNumber = imageNumber image; bytes = sheetBytes v image; busy = 0 }
 
 -- ---- the program
 
