@@ -1,4 +1,4 @@
-//! The thirteen instructions and how four bytes are decoded into one.
+//! The thirteen instructions, their words and how four bytes are decoded into one.
 
 use crate::label::Label;
 
@@ -44,6 +44,10 @@ pub enum Instruction {
     Own { label: Register, slot: Register },
 }
 
+/// The words of the instructions, each at the index that is its code.
+const WORDS: [&str; 13] =
+    ["end", "set", "copy", "add", "subtract", "go", "zero", "raise", "send", "take", "poll", "sandbox", "self"];
+
 impl Instruction {
     /// How many bytes hold an instruction.
     pub const LENGTH: usize = 4;
@@ -69,5 +73,15 @@ impl Instruction {
             [0x0C, a, b, 0] => Own { label: register(a)?, slot: register(b)? },
             _ => return None,
         })
+    }
+
+    /// The code that this word stands for.
+    pub fn code(word: &str) -> Option<u8> {
+        (0..).zip(WORDS).find(|&(_, known)| known == word).map(|(code, _)| code)
+    }
+
+    /// The word that stands for this code.
+    pub fn word(code: u8) -> Option<&'static str> {
+        WORDS.get(usize::from(code)).copied()
     }
 }

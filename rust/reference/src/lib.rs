@@ -1,5 +1,5 @@
-//! A plain interpreter of document 01 and request U1 of document 02, written separately from the monitor and compared
-//! with it.
+//! A plain interpreter of document 01 and requests U1 and U2 of document 02, written separately from the monitor and
+//! compared with it.
 
 #![forbid(unsafe_code)]
 #![deny(missing_docs)]
@@ -7,6 +7,7 @@
 mod image;
 mod instruction;
 mod label;
+mod listing;
 mod mailbox;
 mod read;
 mod refusal;
@@ -51,6 +52,16 @@ pub struct PostAnswer {
     pub length: usize,
     /// Whether the message joined the mailbox; a refused call says dropped.
     pub delivered: bool,
+}
+
+/// What a call that turns text into a program, or a program into text, tells: the number in documents 01 and 02, the
+/// answer's length.
+#[derive(Debug, Clone, Copy, PartialEq, Eq)]
+pub struct TextAnswer {
+    /// 0 for an accepted call, else the number of its refusal.
+    pub number: u8,
+    /// How many bytes were written.
+    pub length: usize,
 }
 
 /// The image's number by itself: 0 where it is accepted.
@@ -104,7 +115,17 @@ pub fn slotsheet(input: &[u8]) -> Vec<u8> {
         .into_bytes()
 }
 
-/// The bytes of a call's answer and what else it tells: its busy count, or whether it delivered.
+/// Writes the program that a text lists, a line for each instruction.
+pub fn assemble(text: &[u8], out: &mut [u8]) -> TextAnswer {
+    text_answer(listing::assemble(text), out)
+}
+
+/// Writes the text that lists a program, a line for each instruction.
+pub fn disassemble(program: &[u8], out: &mut [u8]) -> TextAnswer {
+    text_answer(listing::disassemble(program).map(String::into_bytes), out)
+}
+
+/// The bytes of a call's answer and what else it tells: its busy count, whether it delivered, or nothing.
 type Outcome<T> = Result<(Vec<u8>, T), Refusal>;
 
 fn rewritten(image: &[u8]) -> Outcome<u64> {
@@ -148,6 +169,11 @@ fn label_numbered(number: u32) -> Option<Label> {
 fn answer(outcome: Outcome<u64>, out: &mut [u8]) -> Answer {
     let (number, length, busy) = written(outcome, out);
     Answer { number, length, busy }
+}
+
+fn text_answer(outcome: Result<Vec<u8>, Refusal>, out: &mut [u8]) -> TextAnswer {
+    let (number, length, ()) = written(outcome.map(|bytes| (bytes, ())), out);
+    TextAnswer { number, length }
 }
 
 /// Copies the bytes of an accepted call to the front of the output, if they fit; the number, the length and what else

@@ -84,13 +84,20 @@ pub fn read(bytes: &[u8]) -> Result<(Image<'_>, Records), Refusal> {
 
 fn read_program_bytes<'a>(reader: &mut Reader<'a>) -> Result<&'a [u8], Refusal> {
     let length = usize::from(reader.two_bytes()?);
-    if !(Instruction::LENGTH..=PROGRAM_LIMIT).contains(&length) || length % Instruction::LENGTH != 0 {
-        return Err(Refusal::ProgramLength);
-    }
+    check_program_length(length)?;
     reader.part(length)
 }
 
-fn decode_program(bytes: &[u8]) -> Result<Vec<Instruction>, Refusal> {
+/// Rule 2 of the image, for a program of this many bytes.
+pub fn check_program_length(length: usize) -> Result<(), Refusal> {
+    if !(Instruction::LENGTH..=PROGRAM_LIMIT).contains(&length) || length % Instruction::LENGTH != 0 {
+        return Err(Refusal::ProgramLength);
+    }
+    Ok(())
+}
+
+/// The instructions in the bytes of a program.
+pub fn decode_program(bytes: &[u8]) -> Result<Vec<Instruction>, Refusal> {
     let count = bytes.len() / Instruction::LENGTH;
     let mut reader = Reader::new(bytes);
     (0..count).map(|_| Instruction::decode(reader.field()?, count).ok_or(Refusal::Instruction)).collect()

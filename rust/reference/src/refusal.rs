@@ -11,7 +11,7 @@ pub enum Refusal {
     Short = 3,
     /// The first byte isn't 1.
     Version = 4,
-    /// The program length is no multiple of 4 from 4 to 1,024.
+    /// The program length is no multiple of 4 from 4 to 1,024; for a text, no line or more than 256.
     ProgramLength = 5,
     /// An instruction isn't in the table, or an operand is outside it.
     Instruction = 6,
@@ -33,6 +33,8 @@ pub enum Refusal {
     PostSlot = 14,
     /// The label of the message to post is above 15.
     PostLabel = 15,
+    /// The text isn't a list of instructions.
+    Text = 16,
 }
 
 impl Refusal {

@@ -2,6 +2,7 @@
 //! and the monitor alike, by the crate `differential`.
 
 mod calls;
+mod listings;
 mod posts;
 mod refusals;
 mod steps;
@@ -16,6 +17,41 @@ const ROOM: usize = 8192;
 const UNTOUCHED: u8 = 0xAA;
 
 const END: Instruction = [0, 0, 0, 0];
+
+/// By code, the least value that each operand may not have, in a program of two instructions.
+const OPERAND_LIMITS: [[u16; 3]; 13] = [
+    [1, 1, 1],
+    [8, 256, 256],
+    [8, 8, 1],
+    [8, 8, 8],
+    [8, 8, 8],
+    [2, 1, 1],
+    [8, 2, 1],
+    [16, 1, 1],
+    [8, 16, 8],
+    [8, 8, 1],
+    [8, 8, 2],
+    [8, 2, 16],
+    [8, 8, 1],
+];
+
+const SANDBOX: u8 = 11;
+
+/// Each code with each value of each operand, the others being accepted, and its number in a program of two
+/// instructions.
+fn judged_instructions() -> Vec<(Instruction, u8)> {
+    let mut judged = Vec::new();
+    for (code, limits) in (0u8..).zip(OPERAND_LIMITS) {
+        for (operand, byte) in (0..3).flat_map(|operand| (0..=255u8).map(move |byte| (operand, byte))) {
+            let mut instruction = [code, 0, 0, u8::from(code == SANDBOX)];
+            instruction[1 + operand] = byte;
+            let no_size = code == SANDBOX && instruction[3] == 0;
+            let number = if u16::from(byte) < limits[operand] && !no_size { 0 } else { 6 };
+            judged.push((instruction, number));
+        }
+    }
+    judged
+}
 
 /// An image of this program with live tasks in these slots.
 fn image(program: &[Instruction], used: &[usize]) -> Image {

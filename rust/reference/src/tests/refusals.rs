@@ -1,6 +1,6 @@
 //! One image for each number and the order in which they are given.
 
-use super::{after, b, image, mail, END, ROOM, UNTOUCHED};
+use super::{after, b, image, judged_instructions, mail, END, ROOM, UNTOUCHED};
 use crate::{check, post, record, rewrite, sheet, turns, view, Answer, PostAnswer};
 use layout::{Image, Task};
 
@@ -67,36 +67,11 @@ fn program_lengths_outside_the_rule_are_5() {
     }
 }
 
-/// By code, the least value that each operand may not have, in a program of two instructions.
-const OPERAND_LIMITS: [[u16; 3]; 13] = [
-    [1, 1, 1],
-    [8, 256, 256],
-    [8, 8, 1],
-    [8, 8, 8],
-    [8, 8, 8],
-    [2, 1, 1],
-    [8, 2, 1],
-    [16, 1, 1],
-    [8, 16, 8],
-    [8, 8, 1],
-    [8, 8, 2],
-    [8, 2, 16],
-    [8, 8, 1],
-];
-
-const SANDBOX: u8 = 11;
-
 #[test]
 fn instructions_outside_the_table_are_6_and_others_accepted() {
-    for (code, limits) in (0u8..).zip(OPERAND_LIMITS) {
-        for (operand, byte) in (0..3).flat_map(|operand| (0..=255u8).map(move |byte| (operand, byte))) {
-            let mut instruction = [code, 0, 0, u8::from(code == SANDBOX)];
-            instruction[1 + operand] = byte;
-            let no_size = code == SANDBOX && instruction[3] == 0;
-            let number = if u16::from(byte) < limits[operand] && !no_size { 0 } else { 6 };
-            let bytes = image(&[END, instruction], &[]).bytes();
-            assert_eq!(check(&bytes), number, "{instruction:?}");
-        }
+    for (instruction, number) in judged_instructions() {
+        let bytes = image(&[END, instruction], &[]).bytes();
+        assert_eq!(check(&bytes), number, "{instruction:?}");
     }
 }
 
