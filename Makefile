@@ -88,7 +88,7 @@ examples: all ## test the README's programs, the C host by what is installed bel
 demo: $(archive) ## show what each observer sees of a sample day
 	@examples/day/run
 
-bench: $(archive) ## measure the time of a turn
+bench: $(archive) ## measure the time of turns, of calls and of long texts
 	@$(cargo) run $(cargo_words) --package bench
 
 # Where a file is installed, quoted: DESTDIR may have blanks. PREFIX may not, as flags of the pkg-config file are words.

@@ -1,32 +1,34 @@
 /*
  * rithennaw.h: the C interface of the monitor. ISO C99; link librithennaw.a, which `make lib` builds.
  *
- * Each call takes an image, the bytes of all tasks, whatever they are: it refuses what it cannot take, so the caller
- * checks nothing beforehand. The layout of an image and the meaning of its tasks are the scope document's (01), with its
- * change request U1, the post.
+ * Each call takes an image, the bytes of all tasks; but `rithennaw_assemble` takes text, and `rithennaw_disassemble` a
+ * program. The bytes may be any: a call refuses what it cannot take, so the caller checks nothing beforehand. The layout of
+ * an image, the meaning of its tasks and the text of a program are the scope document's (01), with its change requests U1,
+ * posts, and U2, programs typed by people.
  *
- * Numbers. All calls but `rithennaw_record` return 0 (RITHENNAW_ACCEPTED), or the number of the first rule that is broken,
- * in the order: 1, 2, or 14 and then 15, by the call's own arguments; then the image from front to back; then 11, 12, 13.
+ * Numbers. All calls but `rithennaw_record` return 0 (RITHENNAW_ACCEPTED), or the number of the first rule that is broken.
+ * The order for an image: 1, 2, or 14 and then 15, by the call's own arguments; then the image from front to back; then 11,
+ * 12, 13. For a text: 16, over all of it, then 5, 6, 13. For a program: 5, 6, 13.
  * A refused call writes no byte of the output, and sets *length, *busy and *delivered to 0, where it has them. An accepted
  * one writes *length bytes at the front of the output and leaves the bytes behind them as they were.
  *
- * Pointers. All must be valid for the call: `image` for reading image_len bytes that have been set, `out` for writing
- * out_len bytes, `start`, `length` and `busy` for writing one number at its alignment, `delivered` for writing one byte
- * at any address. None may be null, also where the length beside it is 0; nothing is read or written through it then. What
- * all but `image` point to beforehand does not matter. The image, the output and the numbers pointed to must not overlap,
- * one with another.
+ * Pointers. All must be valid for the call: `image`, `text` and `program` for reading image_len, text_len and program_len
+ * bytes that have been set, `out` for writing out_len bytes, `start`, `length` and `busy` for writing one number at its
+ * alignment, `delivered` for writing one byte at any address. None may be null, also where the length beside it is 0;
+ * nothing is read or written through it then. What stands in the output and in the numbers beforehand does not matter.
+ * What a call reads, the output and the numbers pointed to must not overlap, one with another.
  * Where RITHENNAW_DEBUG is defined ahead of this header, each call first asserts, by assert.h, that no pointer is null, that
  * the numbers are aligned and that nothing overlaps; where NDEBUG is defined too, it asserts nothing. So RITHENNAW_DEBUG
  * belongs into builds without NDEBUG, and on the compiler's command line: behind an earlier include of this header it comes
- * too late. It is an aid to find such faults and no proof that there are none: whether memory is valid, and the image's
- * bytes set, cannot be seen at run time.
+ * too late. It is an aid to find such faults and no proof that there are none: whether memory is valid, and the bytes
+ * that a call reads are set, cannot be seen at run time.
  *
  * Threads and memory. There are no globals, nothing is allocated and nothing is kept between calls. Any number of threads
- * may call at a time, also on one image, as long as no thread writes what another call is lent, or reads what it may write.
- * Every call returns: none waits, and none fails but by its number. A call takes less than RITHENNAW_STACK bytes of the
- * caller's stack, what the loader takes to bind memset and memcpy at a first call included. That is measured on x86-64 and
- * not proved; `make link-test` prints the figure of each call and fails where one is not less. Of the C library the archive
- * uses memset, memcpy and memmove at most.
+ * may call at a time, also on one image, text or program, as long as no thread writes what another call is lent, or reads
+ * what it may write. Every call returns: none waits, and none fails but by its number. A call takes less than
+ * RITHENNAW_STACK bytes of the caller's stack, what the loader takes to bind memset and memcpy at a first call included.
+ * That is measured on x86-64 and not proved; `make link-test` prints the figure of each call and fails where one is not
+ * less. Of the C library the archive uses memset, memcpy and memmove at most.
  */
 #ifndef RITHENNAW_H
 #define RITHENNAW_H
@@ -43,7 +45,7 @@ extern "C" {
 
 /* The version of the library: its three numbers, and text with points between them. An image's version is its first byte. */
 #define RITHENNAW_VERSION_MAJOR 0
-#define RITHENNAW_VERSION_MINOR 2
+#define RITHENNAW_VERSION_MINOR 3
 #define RITHENNAW_VERSION_PATCH 0
 #define RITHENNAW_VERSION_STRING \
     RITHENNAW_TEXT(RITHENNAW_VERSION_MAJOR) "." RITHENNAW_TEXT(RITHENNAW_VERSION_MINOR) "." \
@@ -59,6 +61,13 @@ extern "C" {
 
 /* An output of RITHENNAW_SHEET_MAX bytes is long enough for every observer sheet. */
 #define RITHENNAW_SHEET_MAX 318
+
+/*
+ * The lengths of the longest program and of the longest listing, 256 lines of 17 bytes. Outputs of these lengths are long
+ * enough for every program that is assembled and for every one that is disassembled.
+ */
+#define RITHENNAW_PROGRAM_MAX 1024
+#define RITHENNAW_LISTING_MAX 4352
 
 /* The most turns in one call, the highest label, of an observer and of a message, and the highest slot. */
 #define RITHENNAW_TURNS_MAX 1000000
@@ -84,7 +93,7 @@ enum rithennaw_number {
     RITHENNAW_REFUSED_SHORT = 3,
     /* The image's first byte, its version, isn't 1. */
     RITHENNAW_REFUSED_VERSION = 4,
-    /* The program's length is no multiple of 4 from 4 to 1,024. */
+    /* The program's length is no multiple of 4 from 4 to 1,024: 1 to 256 instructions. */
     RITHENNAW_REFUSED_PROGRAM_LENGTH = 5,
     /* An instruction isn't in the table, or has an operand outside it. */
     RITHENNAW_REFUSED_INSTRUCTION = 6,
@@ -105,7 +114,9 @@ enum rithennaw_number {
     /* The slot posted to is above 15. */
     RITHENNAW_REFUSED_POST_SLOT = 14,
     /* The label of the message posted is above 15. */
-    RITHENNAW_REFUSED_POST_LABEL = 15
+    RITHENNAW_REFUSED_POST_LABEL = 15,
+    /* The text isn't a list of lines, each a word of the table, three numbers and a line feed. */
+    RITHENNAW_REFUSED_TEXT = 16
 };
 
 /* The sentence for a number, in English: that of the enum above, or one which says that the number is none of it. */
@@ -117,7 +128,7 @@ static inline const char *rithennaw_refusal_text(uint8_t number)
     case RITHENNAW_REFUSED_TURN_LIMIT: return "More than 1,000,000 turns were asked for.";
     case RITHENNAW_REFUSED_SHORT: return "The image ends before the last byte of the field or part being read.";
     case RITHENNAW_REFUSED_VERSION: return "The image's first byte, its version, isn't 1.";
-    case RITHENNAW_REFUSED_PROGRAM_LENGTH: return "The program's length is no multiple of 4 from 4 to 1,024.";
+    case RITHENNAW_REFUSED_PROGRAM_LENGTH: return "The program's length is no multiple of 4 from 4 to 1,024: 1 to 256 instructions.";
     case RITHENNAW_REFUSED_INSTRUCTION: return "An instruction isn't in the table, or has an operand outside it.";
     case RITHENNAW_REFUSED_TURN_SLOT: return "The turn slot is above 15.";
     case RITHENNAW_REFUSED_RECORD_LENGTH: return "A record's length is neither 0 nor 37 + 6 * k, k at most 64.";
@@ -128,6 +139,7 @@ static inline const char *rithennaw_refusal_text(uint8_t number)
     case RITHENNAW_REFUSED_OUTPUT: return "The output is shorter than the answer.";
     case RITHENNAW_REFUSED_POST_SLOT: return "The slot posted to is above 15.";
     case RITHENNAW_REFUSED_POST_LABEL: return "The label of the message posted is above 15.";
+    case RITHENNAW_REFUSED_TEXT: return "The text isn't a list of lines, each a word of the table, three numbers and a line feed.";
     default: return "No call of this version returns this number.";
     }
 }
@@ -196,6 +208,24 @@ uint8_t rithennaw_view(const uint8_t *image, size_t image_len, uint32_t observer
 uint8_t rithennaw_sheet(const uint8_t *image, size_t image_len, uint32_t observer, uint8_t *out, size_t out_len,
                         size_t *length);
 
+/*
+ * Writes the program of a text, as it stands in an image behind its 2-byte length: four bytes for each line. A line is a
+ * word of the table of instructions, then a, b and c in decimal without leading zeros, single spaces between, and a line
+ * feed, on the last line too. Nothing else belongs to the text: no empty line, no carriage return, no 0 byte behind it.
+ * Returns 0; 16 where the text isn't a list of such lines; 5 where it has none, as the empty text, or more than 256; 6 where
+ * an operand is outside the table, as every number above 255 is, however long; or 13 where the program has more than
+ * out_len bytes.
+ */
+uint8_t rithennaw_assemble(const uint8_t *text, size_t text_len, uint8_t *out, size_t out_len, size_t *length);
+
+/*
+ * Writes the listing of a program: the text of which `rithennaw_assemble` makes the same bytes, a line for each instruction.
+ * It is ASCII, every line ends with a line feed, and no 0 byte stands behind it. A text that was assembled comes back as it
+ * was typed. The program of an accepted image is the 256 * image[1] + image[2] bytes from image + 3 on.
+ * Returns 0; 5 where program_len is no multiple of 4 from 4 to 1,024; 6; or 13 where the listing has more than out_len bytes.
+ */
+uint8_t rithennaw_disassemble(const uint8_t *program, size_t program_len, uint8_t *out, size_t out_len, size_t *length);
+
 /* The debug aid: the name of each function above is made to stand for one that asserts first and then calls it. */
 #if defined RITHENNAW_DEBUG && !defined NDEBUG
 
@@ -232,25 +262,26 @@ static inline int rithennaw_debug_apart(const void *one, size_t one_len, const v
 }
 
 /*
- * What every call that writes is lent, under the names that its parameters have. It is a macro, since an assertion that
- * fails tells the function that it stands in: so it tells the call.
+ * What every call that writes is lent: what it reads, image, text or program, and the rest under the names that its
+ * parameters have. It is a macro, since an assertion that fails tells its own words and the function that it stands in: so
+ * it tells the call and the parameter.
  */
-#define RITHENNAW_DEBUG_LENT() \
+#define RITHENNAW_DEBUG_LENT(input, input_len) \
     do { \
-        assert(image != NULL); \
+        assert(input != NULL); \
         assert(out != NULL); \
         assert(length != NULL); \
         assert(rithennaw_debug_aligned(length, offsetof(struct rithennaw_debug_size, number))); \
-        assert(rithennaw_debug_apart(image, image_len, out, out_len)); \
-        assert(rithennaw_debug_apart(image, image_len, length, sizeof *length)); \
+        assert(rithennaw_debug_apart(input, input_len, out, out_len)); \
+        assert(rithennaw_debug_apart(input, input_len, length, sizeof *length)); \
         assert(rithennaw_debug_apart(out, out_len, length, sizeof *length)); \
     } while (0)
 
 /* What such a call tells beside the length, through one more pointer. */
-#define RITHENNAW_DEBUG_TELLS(number) \
+#define RITHENNAW_DEBUG_TELLS(input, input_len, number) \
     do { \
         assert(number != NULL); \
-        assert(rithennaw_debug_apart(image, image_len, number, sizeof *number)); \
+        assert(rithennaw_debug_apart(input, input_len, number, sizeof *number)); \
         assert(rithennaw_debug_apart(out, out_len, number, sizeof *number)); \
         assert(rithennaw_debug_apart(length, sizeof *length, number, sizeof *number)); \
     } while (0)
@@ -278,15 +309,15 @@ static inline void rithennaw_debug_record(const uint8_t *image, size_t image_len
 static inline uint8_t rithennaw_debug_rewrite(const uint8_t *image, size_t image_len, uint8_t *out, size_t out_len,
                                               size_t *length)
 {
-    RITHENNAW_DEBUG_LENT();
+    RITHENNAW_DEBUG_LENT(image, image_len);
     return rithennaw_rewrite(image, image_len, out, out_len, length);
 }
 
 static inline uint8_t rithennaw_debug_turns(const uint8_t *image, size_t image_len, uint64_t count, uint8_t *out,
                                             size_t out_len, size_t *length, uint64_t *busy)
 {
-    RITHENNAW_DEBUG_LENT();
-    RITHENNAW_DEBUG_TELLS(busy);
+    RITHENNAW_DEBUG_LENT(image, image_len);
+    RITHENNAW_DEBUG_TELLS(image, image_len, busy);
     assert(rithennaw_debug_aligned(busy, offsetof(struct rithennaw_debug_count, number)));
     return rithennaw_turns(image, image_len, count, out, out_len, length, busy);
 }
@@ -295,23 +326,37 @@ static inline uint8_t rithennaw_debug_post(const uint8_t *image, size_t image_le
                                            uint32_t value, uint8_t *out, size_t out_len, size_t *length,
                                            uint8_t *delivered)
 {
-    RITHENNAW_DEBUG_LENT();
-    RITHENNAW_DEBUG_TELLS(delivered);
+    RITHENNAW_DEBUG_LENT(image, image_len);
+    RITHENNAW_DEBUG_TELLS(image, image_len, delivered);
     return rithennaw_post(image, image_len, slot, label, value, out, out_len, length, delivered);
 }
 
 static inline uint8_t rithennaw_debug_view(const uint8_t *image, size_t image_len, uint32_t observer, uint8_t *out,
                                            size_t out_len, size_t *length)
 {
-    RITHENNAW_DEBUG_LENT();
+    RITHENNAW_DEBUG_LENT(image, image_len);
     return rithennaw_view(image, image_len, observer, out, out_len, length);
 }
 
 static inline uint8_t rithennaw_debug_sheet(const uint8_t *image, size_t image_len, uint32_t observer, uint8_t *out,
                                             size_t out_len, size_t *length)
 {
-    RITHENNAW_DEBUG_LENT();
+    RITHENNAW_DEBUG_LENT(image, image_len);
     return rithennaw_sheet(image, image_len, observer, out, out_len, length);
+}
+
+static inline uint8_t rithennaw_debug_assemble(const uint8_t *text, size_t text_len, uint8_t *out, size_t out_len,
+                                               size_t *length)
+{
+    RITHENNAW_DEBUG_LENT(text, text_len);
+    return rithennaw_assemble(text, text_len, out, out_len, length);
+}
+
+static inline uint8_t rithennaw_debug_disassemble(const uint8_t *program, size_t program_len, uint8_t *out,
+                                                  size_t out_len, size_t *length)
+{
+    RITHENNAW_DEBUG_LENT(program, program_len);
+    return rithennaw_disassemble(program, program_len, out, out_len, length);
 }
 
 #define rithennaw_check rithennaw_debug_check
@@ -321,6 +366,8 @@ static inline uint8_t rithennaw_debug_sheet(const uint8_t *image, size_t image_l
 #define rithennaw_post rithennaw_debug_post
 #define rithennaw_view rithennaw_debug_view
 #define rithennaw_sheet rithennaw_debug_sheet
+#define rithennaw_assemble rithennaw_debug_assemble
+#define rithennaw_disassemble rithennaw_debug_disassemble
 
 #endif
 

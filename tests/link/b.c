@@ -1,7 +1,8 @@
 /*
  * The archive linked into a C program: the scope document's image B, its examples P2, P3 and P5, posts to B and the sheet of
- * P2 through the header, every byte compared; a record's part; each refusal of an image, and the refusals 1, 2, 3, 13, 14
- * and 15 of calls that write, which leave the output as it was; the sentences of the numbers and the version.
+ * P2 through the header, every byte compared; a record's part; programs and their texts, both ways; each refusal of an
+ * image, a text and a program, and the refusals 1, 2, 3, 13, 14 and 15 of calls that write, which leave the output as it was;
+ * the sentences of the numbers and the version.
  */
 #include <stdint.h>
 #include <stdio.h>
@@ -31,7 +32,7 @@ static void expect_number(unsigned long long is, unsigned long long should, cons
     }
 }
 
-/* ---- images: an array with room for the longest, and a length */
+/* ---- images, programs and texts: an array with room for the longest image, and a length */
 
 struct image {
     uint8_t bytes[RITHENNAW_IMAGE_MAX];
@@ -55,6 +56,14 @@ static void put_number(struct image *b, unsigned width, uint32_t x)
 {
     set_number(b->bytes + b->length, width, x);
     b->length += width;
+}
+
+/* Text that ends with a 0 byte, which is no part of it. */
+static void put_words(struct image *text, const char *words)
+{
+    while (*words != '\0') {
+        put(text, (unsigned char)*words++);
+    }
 }
 
 /* Where the fields of B stand: version, program length and program; turn slot; slots 0 to 15. */
@@ -204,15 +213,29 @@ static void views(const char *call, const struct image *image, uint32_t observer
     expect_answer(call, rithennaw_view(image->bytes, image->length, observer, out, room, &length), number, should);
 }
 
-/* The sheet is `should`, text that ends with a 0 byte, which is no part of the sheet. */
+/* The sheet is `should`, without the 0 byte behind it. */
 static void sheets(const char *call, const struct image *image, uint32_t observer, size_t room, unsigned number,
                    const char *should)
 {
     struct image text;
-    text.length = strlen(should);
-    memcpy(text.bytes, should, text.length);
+    text.length = 0;
+    put_words(&text, should);
     fill();
     expect_answer(call, rithennaw_sheet(image->bytes, image->length, observer, out, room, &length), number, &text);
+}
+
+static void assembles(const char *call, const struct image *text, size_t room, unsigned number,
+                      const struct image *should)
+{
+    fill();
+    expect_answer(call, rithennaw_assemble(text->bytes, text->length, out, room, &length), number, should);
+}
+
+static void disassembles(const char *call, const struct image *code, size_t room, unsigned number,
+                         const struct image *should)
+{
+    fill();
+    expect_answer(call, rithennaw_disassemble(code->bytes, code->length, out, room, &length), number, should);
 }
 
 static void checks_as(const char *call, const struct image *image, unsigned number)
@@ -305,6 +328,48 @@ static void make_posted(void)
     }
     full_posted = full;
     put_mail(&full_posted, SLOT_5_AT, 3, RITHENNAW_HOST, FIGURE);
+}
+
+/* ---- programs and their texts: of B, of every word in the table, the longest, and one of a line more */
+
+static struct image b_text, b_code, table_text, table_code, longest_text, longest_code, longer_text, longer_code;
+
+/* One line more, and its four bytes. */
+static void put_line(struct image *text, struct image *code, const char *line, uint32_t bytes)
+{
+    put_words(text, line);
+    put_number(code, 4, bytes);
+}
+
+static void make_programs(void)
+{
+    unsigned i;
+    put_words(&b_text, "send 1 0 2\nend 0 0 0\ntake 3 4 0\nend 0 0 0\n");
+    for (i = 0; i < sizeof program; i++) {
+        put(&b_code, program[i]);
+    }
+
+    /* The operands are as high as they may be, or differ. */
+    put_line(&table_text, &table_code, "end 0 0 0\n", 0x00000000);
+    put_line(&table_text, &table_code, "set 7 255 255\n", 0x0107ffff);
+    put_line(&table_text, &table_code, "copy 1 2 0\n", 0x02010200);
+    put_line(&table_text, &table_code, "add 7 7 7\n", 0x03070707);
+    put_line(&table_text, &table_code, "subtract 3 4 5\n", 0x04030405);
+    put_line(&table_text, &table_code, "go 12 0 0\n", 0x050c0000);
+    put_line(&table_text, &table_code, "zero 6 12 0\n", 0x06060c00);
+    put_line(&table_text, &table_code, "raise 15 0 0\n", 0x070f0000);
+    put_line(&table_text, &table_code, "send 1 15 2\n", 0x08010f02);
+    put_line(&table_text, &table_code, "take 3 4 0\n", 0x09030400);
+    put_line(&table_text, &table_code, "poll 5 6 12\n", 0x0a05060c);
+    put_line(&table_text, &table_code, "sandbox 7 12 15\n", 0x0b070c0f);
+    put_line(&table_text, &table_code, "self 1 2 0\n", 0x0c010200);
+
+    for (i = 0; i < 256; i++) {
+        put_line(&longest_text, &longest_code, "sandbox 7 255 15\n", 0x0b07ff0f);
+    }
+    longer_text = longest_text;
+    longer_code = longest_code;
+    put_line(&longer_text, &longer_code, "end 0 0 0\n", 0x00000000);
 }
 
 /* ---- each function: accepted calls, then the refusals in the order of their numbers */
@@ -447,6 +512,137 @@ static void try_sheet(void)
     sheets("sheet of P2 for 0 into a byte too few", &p2, 0, enough - 1, RITHENNAW_REFUSED_OUTPUT, "");
 }
 
+/* The text is refused with that number, whether or not there is room. */
+static void refuses_text(const struct image *text, unsigned number)
+{
+    char call[100];
+    const int shown = text->length < 60 ? (int)text->length : 60;
+    snprintf(call, sizeof call, "assemble of \"%.*s\"", shown, (const char *)text->bytes);
+    assembles(call, text, OUT_LENGTH, number, NULL);
+    assembles(call, text, 0, number, NULL);
+}
+
+static void refuses_words(const char *words, unsigned number)
+{
+    struct image text;
+    text.length = 0;
+    put_words(&text, words);
+    refuses_text(&text, number);
+}
+
+/* The text with one byte more behind it. */
+static void refuses_with(const struct image *text, unsigned byte, unsigned number)
+{
+    struct image with = *text;
+    put(&with, byte);
+    refuses_text(&with, number);
+}
+
+/* No list of lines, for whatever is wrong in it; also where 5 or 6 would be told of its lines. */
+static void try_no_lists(void)
+{
+    static const char *const no_lists[] = {
+        "end 0 0 0", "end 0 0 0\nend 0 0 0", "\n", "end 0 0 0\n\n", "\nend 0 0 0\n", "end 0 0 0\r\n", "end 0 0 0\r",
+        "halt 0 0 0\n", "End 0 0 0\n", "en 0 0 0\n", "ends 0 0 0\n", " 0 0 0\n", "0 0 0\n", "end\n", "end \n",
+        "end 0 0\n", "end 0 0 \n", "end 0 0 0 0\n", "end 0 0 0 \n", " end 0 0 0\n", "end  0 0 0\n", "end 0  0 0\n",
+        "end\t0 0 0\n", "end 0,0,0\n", "end000\n", "set 1 00 0\n", "set 1 01 0\n", "set 01 1 0\n", "set 1 0 010\n",
+        "set 1 -1 0\n", "set 1 +1 0\n", "set 1 0x1 0\n", "set 1 x 0\n", "set 1 1e0 0\n", "set 1 0 0 # one\n", "# one\n",
+        "here:\nend 0 0 0\n", "end 0 0 0\xa0\n", "\xef\xbb\xbf" "end 0 0 0\n", "set 1 \xb2 0\n",
+        "set 8 0 0\nend 0 0 0", "set 1 0 256\nhalt 0 0 0\n", "go 9 0 0\n\n"
+    };
+    size_t i;
+    for (i = 0; i < sizeof no_lists / sizeof no_lists[0]; i++) {
+        refuses_words(no_lists[i], RITHENNAW_REFUSED_TEXT);
+    }
+    refuses_with(&b_text, '\0', RITHENNAW_REFUSED_TEXT);
+    refuses_with(&longest_text, '\n', RITHENNAW_REFUSED_TEXT);
+    refuses_with(&longer_text, ' ', RITHENNAW_REFUSED_TEXT);
+}
+
+/* Operands outside the table, in a program of one or two instructions. */
+static void try_operands(void)
+{
+    static const char *const outside[] = {
+        "end 1 0 0\n", "end 0 1 0\n", "end 0 0 1\n", "set 8 0 0\n", "set 0 256 0\n", "set 0 0 256\n", "copy 0 8 0\n",
+        "copy 0 0 1\n", "add 0 0 8\n", "subtract 8 0 0\n", "go 1 0 0\n", "go 2 0 0\nend 0 0 0\n", "zero 0 1 0\n",
+        "raise 16 0 0\n", "send 0 16 0\n", "take 0 0 1\n", "poll 0 0 1\n", "sandbox 0 0 0\n", "sandbox 0 0 16\n",
+        "sandbox 0 1 1\n", "self 0 8 0\n", "set 257 0 0\n", "set 1 65536 0\n", "set 1 4294967296 0\n",
+        "set 1 0 18446744073709551616\n", "set 1 0 340282366920938463463374607431768211456\n", "end 0 0 256\n"
+    };
+    struct image digits = {{0}, 0};
+    size_t i;
+    for (i = 0; i < sizeof outside / sizeof outside[0]; i++) {
+        refuses_words(outside[i], RITHENNAW_REFUSED_INSTRUCTION);
+    }
+    put_words(&digits, "set 1 0 1");
+    for (i = 0; i < 7000; i++) {
+        put(&digits, '0');
+    }
+    put(&digits, '\n');
+    refuses_text(&digits, RITHENNAW_REFUSED_INSTRUCTION);
+}
+
+static void try_assemble(void)
+{
+    struct image wrong = longer_text;
+    put_words(&wrong, "set 8 0 0\n");
+    assembles("assemble of B's text", &b_text, OUT_LENGTH, RITHENNAW_ACCEPTED, &b_code);
+    assembles("assemble of B's text into just enough", &b_text, b_code.length, RITHENNAW_ACCEPTED, &b_code);
+    assembles("assemble of every word", &table_text, OUT_LENGTH, RITHENNAW_ACCEPTED, &table_code);
+    assembles("assemble of 256 lines", &longest_text, RITHENNAW_PROGRAM_MAX, RITHENNAW_ACCEPTED, &longest_code);
+    try_no_lists();
+    refuses_text(&empty, RITHENNAW_REFUSED_PROGRAM_LENGTH);
+    refuses_text(&longer_text, RITHENNAW_REFUSED_PROGRAM_LENGTH);
+    refuses_text(&wrong, RITHENNAW_REFUSED_PROGRAM_LENGTH);
+    try_operands();
+    assembles("assemble into a byte too few", &b_text, b_code.length - 1, RITHENNAW_REFUSED_OUTPUT, NULL);
+    assembles("assemble of 256 lines into a byte too few", &longest_text, RITHENNAW_PROGRAM_MAX - 1,
+              RITHENNAW_REFUSED_OUTPUT, NULL);
+    assembles("assemble into nothing", &b_text, 0, RITHENNAW_REFUSED_OUTPUT, NULL);
+}
+
+/* The program of B with the byte at `at` changed, and with a length of its own, is refused with that number. */
+static void refuses_program(const char *call, size_t at, unsigned byte, size_t program_length, unsigned number)
+{
+    struct image changed = longer_code;
+    memcpy(changed.bytes, b_code.bytes, b_code.length);
+    changed.bytes[at] = (uint8_t)byte;
+    changed.length = program_length;
+    disassembles(call, &changed, OUT_LENGTH, number, NULL);
+    disassembles(call, &changed, 0, number, NULL);
+}
+
+/* The listing of the program that stands in B, where the header says. */
+static void lists_program_of_b(void)
+{
+    const size_t program_length = 256u * b.bytes[1] + b.bytes[2];
+    fill();
+    expect_answer("listing of the program in B",
+                  rithennaw_disassemble(b.bytes + 3, program_length, out, OUT_LENGTH, &length), RITHENNAW_ACCEPTED, &b_text);
+}
+
+static void try_disassemble(void)
+{
+    lists_program_of_b();
+    disassembles("listing of B", &b_code, OUT_LENGTH, RITHENNAW_ACCEPTED, &b_text);
+    disassembles("listing of B into just enough", &b_code, b_text.length, RITHENNAW_ACCEPTED, &b_text);
+    disassembles("listing of every word", &table_code, OUT_LENGTH, RITHENNAW_ACCEPTED, &table_text);
+    disassembles("listing of 256 instructions", &longest_code, RITHENNAW_LISTING_MAX, RITHENNAW_ACCEPTED, &longest_text);
+    refuses_program("listing of no bytes", 0, 8, 0, RITHENNAW_REFUSED_PROGRAM_LENGTH);
+    refuses_program("listing of 3 bytes", 0, 8, 3, RITHENNAW_REFUSED_PROGRAM_LENGTH);
+    refuses_program("listing of 17 bytes, the first 255", 0, 255, 17, RITHENNAW_REFUSED_PROGRAM_LENGTH);
+    refuses_program("listing of 1,028 bytes", 0, 8, 1028, RITHENNAW_REFUSED_PROGRAM_LENGTH);
+    refuses_program("listing of an instruction 255", 0, 255, 16, RITHENNAW_REFUSED_INSTRUCTION);
+    refuses_program("listing of a last instruction 255", 12, 255, 16, RITHENNAW_REFUSED_INSTRUCTION);
+    refuses_program("listing of a register 8", 1, 8, 16, RITHENNAW_REFUSED_INSTRUCTION);
+    refuses_program("listing of a label 16", 2, 16, 16, RITHENNAW_REFUSED_INSTRUCTION);
+    refuses_program("listing of an end 0 0 1", 15, 1, 16, RITHENNAW_REFUSED_INSTRUCTION);
+    disassembles("listing of B into a byte too few", &b_code, b_text.length - 1, RITHENNAW_REFUSED_OUTPUT, NULL);
+    disassembles("listing of 256 instructions into a byte too few", &longest_code, RITHENNAW_LISTING_MAX - 1,
+                 RITHENNAW_REFUSED_OUTPUT, NULL);
+    disassembles("listing of B into nothing", &b_code, 0, RITHENNAW_REFUSED_OUTPUT, NULL);
+}
+
 /* ---- what the header has beside the archive's functions */
 
 static int has_text(uint8_t number, const char *text)
@@ -473,7 +669,7 @@ static int has_own_sentence(uint8_t number)
 static void try_texts(void)
 {
     uint8_t number;
-    for (number = RITHENNAW_ACCEPTED; number <= RITHENNAW_REFUSED_POST_LABEL; number++) {
+    for (number = RITHENNAW_ACCEPTED; number <= RITHENNAW_REFUSED_TEXT; number++) {
         expect(has_own_sentence(number), rithennaw_refusal_text(number));
     }
     /* far above the last number, so that a new one moves neither */
@@ -491,6 +687,7 @@ int main(void)
 {
     make_images();
     make_posted();
+    make_programs();
     try_check();
     try_record();
     try_rewrite();
@@ -498,6 +695,8 @@ int main(void)
     try_post();
     try_view();
     try_sheet();
+    try_assemble();
+    try_disassemble();
     try_texts();
     try_version();
     printf("b.c: %u checks, %u failed\n", checks, faults);

@@ -30,7 +30,7 @@ static void expect(int holds, const char *call, const char *what)
 
 /* ---- what is lent: places in one part of memory and lengths, side by side with no byte between them */
 
-enum field { IMAGE, IMAGE_LEN, OUT, OUT_LEN, LENGTH, BUSY, START, DELIVERED, FIELDS };
+enum field { INPUT, INPUT_LEN, OUT, OUT_LEN, LENGTH, BUSY, START, DELIVERED, FIELDS };
 
 struct lent {
     int field[FIELDS];
@@ -42,8 +42,8 @@ static union {
 } memory;
 
 /*
- * The shortest image, an output of as many bytes, and the numbers. FREE is a place behind them, aligned as they are, NOWHERE
- * the null pointer.
+ * The input, of as many bytes as the shortest image, an output of as many, and the numbers. FREE is a place behind them,
+ * aligned as they are, NOWHERE the null pointer.
  */
 enum {
     SHORTEST = RITHENNAW_IMAGE_MIN,
@@ -76,49 +76,62 @@ static void make_image(void)
     memcpy(memory.bytes, head, sizeof head);
 }
 
-/* ---- the calls, each with its number */
+/* ---- the calls, each with its number; the input is the image, the text or the program */
 
 static unsigned check(const struct lent *lent)
 {
-    return rithennaw_check((uint8_t *)place(lent, IMAGE), (size_t)lent->field[IMAGE_LEN]);
+    return rithennaw_check((uint8_t *)place(lent, INPUT), (size_t)lent->field[INPUT_LEN]);
 }
 
 static unsigned record(const struct lent *lent)
 {
-    rithennaw_record((uint8_t *)place(lent, IMAGE), (size_t)lent->field[IMAGE_LEN], 0, (size_t *)place(lent, START),
+    rithennaw_record((uint8_t *)place(lent, INPUT), (size_t)lent->field[INPUT_LEN], 0, (size_t *)place(lent, START),
                      (size_t *)place(lent, LENGTH));
     return 0;
 }
 
 static unsigned rewrite(const struct lent *lent)
 {
-    return rithennaw_rewrite((uint8_t *)place(lent, IMAGE), (size_t)lent->field[IMAGE_LEN], (uint8_t *)place(lent, OUT),
+    return rithennaw_rewrite((uint8_t *)place(lent, INPUT), (size_t)lent->field[INPUT_LEN], (uint8_t *)place(lent, OUT),
                              (size_t)lent->field[OUT_LEN], (size_t *)place(lent, LENGTH));
 }
 
 static unsigned turns(const struct lent *lent)
 {
-    return rithennaw_turns((uint8_t *)place(lent, IMAGE), (size_t)lent->field[IMAGE_LEN], 16, (uint8_t *)place(lent, OUT),
+    return rithennaw_turns((uint8_t *)place(lent, INPUT), (size_t)lent->field[INPUT_LEN], 16, (uint8_t *)place(lent, OUT),
                            (size_t)lent->field[OUT_LEN], (size_t *)place(lent, LENGTH), (uint64_t *)place(lent, BUSY));
 }
 
 static unsigned post(const struct lent *lent)
 {
-    return rithennaw_post((uint8_t *)place(lent, IMAGE), (size_t)lent->field[IMAGE_LEN], 0, 0, 0,
+    return rithennaw_post((uint8_t *)place(lent, INPUT), (size_t)lent->field[INPUT_LEN], 0, 0, 0,
                           (uint8_t *)place(lent, OUT), (size_t)lent->field[OUT_LEN], (size_t *)place(lent, LENGTH),
                           (uint8_t *)place(lent, DELIVERED));
 }
 
 static unsigned view(const struct lent *lent)
 {
-    return rithennaw_view((uint8_t *)place(lent, IMAGE), (size_t)lent->field[IMAGE_LEN], 15, (uint8_t *)place(lent, OUT),
+    return rithennaw_view((uint8_t *)place(lent, INPUT), (size_t)lent->field[INPUT_LEN], 15, (uint8_t *)place(lent, OUT),
                           (size_t)lent->field[OUT_LEN], (size_t *)place(lent, LENGTH));
 }
 
 static unsigned sheet(const struct lent *lent)
 {
-    return rithennaw_sheet((uint8_t *)place(lent, IMAGE), (size_t)lent->field[IMAGE_LEN], 15, (uint8_t *)place(lent, OUT),
+    return rithennaw_sheet((uint8_t *)place(lent, INPUT), (size_t)lent->field[INPUT_LEN], 15, (uint8_t *)place(lent, OUT),
                            (size_t)lent->field[OUT_LEN], (size_t *)place(lent, LENGTH));
+}
+
+static unsigned assemble(const struct lent *lent)
+{
+    return rithennaw_assemble((uint8_t *)place(lent, INPUT), (size_t)lent->field[INPUT_LEN], (uint8_t *)place(lent, OUT),
+                              (size_t)lent->field[OUT_LEN], (size_t *)place(lent, LENGTH));
+}
+
+static unsigned disassemble(const struct lent *lent)
+{
+    return rithennaw_disassemble((uint8_t *)place(lent, INPUT), (size_t)lent->field[INPUT_LEN],
+                                 (uint8_t *)place(lent, OUT), (size_t)lent->field[OUT_LEN],
+                                 (size_t *)place(lent, LENGTH));
 }
 
 /* Each with the function that asserts, as a failing assertion names it. The calls that write stand last. */
@@ -129,9 +142,20 @@ struct call {
 static const struct call calls[] = {
     {"rithennaw_debug_check", check}, {"rithennaw_debug_record", record}, {"rithennaw_debug_rewrite", rewrite},
     {"rithennaw_debug_turns", turns}, {"rithennaw_debug_post", post}, {"rithennaw_debug_view", view},
-    {"rithennaw_debug_sheet", sheet}
+    {"rithennaw_debug_sheet", sheet}, {"rithennaw_debug_assemble", assemble},
+    {"rithennaw_debug_disassemble", disassemble}
 };
-enum { CHECK = 1, RECORD = 2, WRITING = 4 + 8 + 16 + 32 + 64, TURNS = 8, POST = 16, CALLS = 7 };
+enum {
+    CHECK = 1,
+    RECORD = 2,
+    TURNS = 8,
+    POST = 16,
+    OF_IMAGE = 4 + TURNS + POST + 32 + 64,
+    ASSEMBLE = 128,
+    DISASSEMBLE = 256,
+    WRITING = OF_IMAGE + ASSEMBLE + DISASSEMBLE,
+    CALLS = 9
+};
 
 /* ---- calls as the header asks for them */
 
@@ -151,12 +175,12 @@ static void try_good(void)
 {
     size_t evaluated = 0;
     uint8_t (*by_pointer)(const uint8_t *, size_t) = rithennaw_check;
-    passes("parts that touch", CHECK | RECORD | WRITING, good, RITHENNAW_ACCEPTED);
+    passes("parts that touch", CHECK | RECORD | OF_IMAGE, good, RITHENNAW_ACCEPTED);
     passes("a delivery told at an odd address", POST, with(good, DELIVERED, FREE + 1), RITHENNAW_ACCEPTED);
-    passes("an output ahead of the image, which is all 0", WRITING, with(with(good, OUT, 0), IMAGE, SHORTEST),
+    passes("an output ahead of the image, which is all 0", OF_IMAGE, with(with(good, OUT, 0), INPUT, SHORTEST),
            RITHENNAW_REFUSED_VERSION);
-    passes("an empty output amid the image", WRITING, with(with(good, OUT, 8), OUT_LEN, 0), RITHENNAW_REFUSED_OUTPUT);
-    passes("an empty image amid the output", WRITING, with(with(good, IMAGE, SHORTEST + 8), IMAGE_LEN, 0),
+    passes("an empty output amid the image", OF_IMAGE, with(with(good, OUT, 8), OUT_LEN, 0), RITHENNAW_REFUSED_OUTPUT);
+    passes("an empty image amid the output", OF_IMAGE, with(with(good, INPUT, SHORTEST + 8), INPUT_LEN, 0),
            RITHENNAW_REFUSED_SHORT);
     make_image();
     expect(turns(&good) == 0 && memcmp(memory.bytes, memory.bytes + SHORTEST, SHORTEST) == 0, "turns",
@@ -164,6 +188,24 @@ static void try_good(void)
     expect(rithennaw_check(memory.bytes + evaluated++, SHORTEST) == RITHENNAW_ACCEPTED && evaluated == 1, "check",
            "arguments are evaluated once");
     expect(by_pointer == rithennaw_debug_check, "check", "a pointer to a call points to the one that asserts");
+}
+
+/* Four lines, and the program behind them that is assembled of them; then the other way round. */
+static void try_good_text(void)
+{
+    static const char text[SHORTEST + 1] = "end 0 0 0\nend 0 0 0\nend 0 0 0\nend 0 0 0\n";
+    const struct lent back = with(with(with(good, INPUT, SHORTEST), INPUT_LEN, 16), OUT, 0);
+    memcpy(memory.bytes, text, SHORTEST);
+    expect(assemble(&good) == RITHENNAW_ACCEPTED, "assemble", "parts that touch");
+    memset(memory.bytes, 1, SHORTEST);
+    expect(disassemble(&back) == RITHENNAW_ACCEPTED && memcmp(memory.bytes, text, SHORTEST) == 0, "disassemble",
+           "parts that touch");
+    passes("an empty output amid the text, which is an image", ASSEMBLE, with(with(good, OUT, 8), OUT_LEN, 0),
+           RITHENNAW_REFUSED_TEXT);
+    passes("an empty output amid the program", DISASSEMBLE, with(with(good, OUT, 8), OUT_LEN, 0),
+           RITHENNAW_REFUSED_OUTPUT);
+    passes("an empty input amid the output", ASSEMBLE | DISASSEMBLE, with(with(good, INPUT, SHORTEST + 8), INPUT_LEN, 0),
+           RITHENNAW_REFUSED_PROGRAM_LENGTH);
 }
 
 /* ---- faults */
@@ -206,9 +248,23 @@ static void aborts(const char *assertion, unsigned which, struct lent lent)
     }
 }
 
+/* What those calls read, by the name that it has in them. Overlaps: the same place, and the last or the first byte alone. */
+static void try_input(const char *input, unsigned which)
+{
+    char null[100], input_out[100], input_length[100];
+    snprintf(null, sizeof null, "%s != NULL", input);
+    snprintf(input_out, sizeof input_out, "rithennaw_debug_apart(%s, %s_len, out, out_len)", input, input);
+    snprintf(input_length, sizeof input_length, "rithennaw_debug_apart(%s, %s_len, length, sizeof *length)", input, input);
+    aborts(null, which, with(good, INPUT, NOWHERE));
+    aborts(input_out, which & WRITING, with(good, OUT, 0));
+    aborts(input_out, which & WRITING, with(good, OUT, SHORTEST - 1));
+    aborts(input_out, which & WRITING, with(good, INPUT, 2 * SHORTEST - 1));
+    aborts(input_length, which & (RECORD | WRITING), with(good, LENGTH, 0));
+    aborts(input_length, which & (RECORD | WRITING), with(with(with(good, LENGTH, 0), INPUT, 7), INPUT_LEN, 1));
+}
+
 static void try_null(void)
 {
-    aborts("image != NULL", CHECK | RECORD | WRITING, with(good, IMAGE, NOWHERE));
     aborts("out != NULL", WRITING, with(good, OUT, NOWHERE));
     aborts("length != NULL", RECORD | WRITING, with(good, LENGTH, NOWHERE));
     aborts("start != NULL", RECORD, with(good, START, NOWHERE));
@@ -223,11 +279,9 @@ static void try_alignment(void)
     aborts("rithennaw_debug_aligned(busy,", TURNS, with(good, BUSY, FREE + 4));
 }
 
-/* The same place, and the last or the first byte alone in common. */
+/* Overlaps of what is written, the same place or a byte alone in common, and of the numbers that some calls tell. */
 static void try_overlap(void)
 {
-    const char *image_out = "rithennaw_debug_apart(image, image_len, out, out_len)";
-    const char *image_length = "rithennaw_debug_apart(image, image_len, length, sizeof *length)";
     const char *out_length = "rithennaw_debug_apart(out, out_len, length, sizeof *length)";
     const char *image_start = "rithennaw_debug_apart(image, image_len, start, sizeof *start)";
     const char *start_length = "rithennaw_debug_apart(start, sizeof *start, length, sizeof *length)";
@@ -237,11 +291,6 @@ static void try_overlap(void)
     const char *image_delivered = "rithennaw_debug_apart(image, image_len, delivered, sizeof *delivered)";
     const char *out_delivered = "rithennaw_debug_apart(out, out_len, delivered, sizeof *delivered)";
     const char *length_delivered = "rithennaw_debug_apart(length, sizeof *length, delivered, sizeof *delivered)";
-    aborts(image_out, WRITING, with(good, OUT, 0));
-    aborts(image_out, WRITING, with(good, OUT, SHORTEST - 1));
-    aborts(image_out, WRITING, with(good, IMAGE, 2 * SHORTEST - 1));
-    aborts(image_length, RECORD | WRITING, with(good, LENGTH, 0));
-    aborts(image_length, RECORD | WRITING, with(with(with(good, LENGTH, 0), IMAGE, 7), IMAGE_LEN, 1));
     aborts(out_length, WRITING, with(good, LENGTH, SHORTEST));
     aborts(out_length, WRITING, with(good, OUT_LEN, SHORTEST + 1));
     aborts(image_start, RECORD, with(good, START, 0));
@@ -259,6 +308,10 @@ int main(void)
     const struct rlimit no_core = {0, 0};
     setrlimit(RLIMIT_CORE, &no_core);
     try_good();
+    try_good_text();
+    try_input("image", CHECK | RECORD | OF_IMAGE);
+    try_input("text", ASSEMBLE);
+    try_input("program", DISASSEMBLE);
     try_null();
     try_alignment();
     try_overlap();

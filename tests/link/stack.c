@@ -8,6 +8,7 @@
 #include <stdint.h>
 #include <stdio.h>
 #include <stdlib.h>
+#include <string.h>
 
 #include "rithennaw.h"
 
@@ -15,9 +16,11 @@
 enum { STACK = 1 << 20, PATTERN = 0xa5, MARGIN = 512 };
 
 /* The image that the calls take: sixteen live tasks that take, poll and send to slot 1, each with 64 messages, four of each
- * label; but slot 15 has room for one of label 15, which is posted. */
+ * label; but slot 15 has room for one of label 15, which is posted. And the longest program and its text. */
 static uint8_t image[RITHENNAW_IMAGE_MAX];
 static size_t image_len;
+static uint8_t program[RITHENNAW_PROGRAM_MAX];
+static uint8_t text[RITHENNAW_LISTING_MAX];
 static uint8_t out[RITHENNAW_IMAGE_MAX];
 static size_t start, length;
 static uint64_t busy;
@@ -56,6 +59,17 @@ static void make_image(void)
             put(0);
             put(i);
         }
+    }
+}
+
+static void make_program(void)
+{
+    static const uint8_t instruction[4] = {0x0b, 7, 255, 15};
+    static const char line[] = "sandbox 7 255 15\n";
+    unsigned i;
+    for (i = 0; i < 256; i++) {
+        memcpy(program + 4 * i, instruction, 4);
+        memcpy(text + 17 * i, line, 17);
     }
 }
 
@@ -98,6 +112,16 @@ static unsigned sheet(void)
     return rithennaw_sheet(image, image_len, 7, out, sizeof out, &length);
 }
 
+static unsigned assemble(void)
+{
+    return rithennaw_assemble(text, sizeof text, out, sizeof out, &length);
+}
+
+static unsigned disassemble(void)
+{
+    return rithennaw_disassemble(program, sizeof program, out, sizeof out, &length);
+}
+
 /* ---- the thread */
 
 static uint8_t *stack;
@@ -136,11 +160,13 @@ int main(void)
         const char *name;
         unsigned (*call)(void);
     } calls[] = {{"turns", turns}, {"post", post}, {"view", view}, {"sheet", sheet},
-                 {"rewrite", rewrite}, {"record", record}, {"check", check}};
+                 {"rewrite", rewrite}, {"record", record}, {"check", check},
+                 {"assemble", assemble}, {"disassemble", disassemble}};
     void *memory;
     size_t i;
     int status = 0;
     make_image();
+    make_program();
     if (posix_memalign(&memory, 4096, STACK) != 0) {
         fprintf(stderr, "stack.c: no memory for a stack\n");
         return 1;
@@ -158,7 +184,7 @@ int main(void)
                 fprintf(stderr, "stack.c: rithennaw_%s was refused with %u\n", calls[i].name, number);
                 status = 1;
             }
-            printf("rithennaw_%-8s %6zu bytes of stack, %s call\n", calls[i].name, taken, again ? "second" : "first");
+            printf("rithennaw_%-11s %6zu bytes of stack, %s call\n", calls[i].name, taken, again ? "second" : "first");
             if (taken < MARGIN || taken >= RITHENNAW_STACK) {
                 fprintf(stderr, "stack.c: not measured, or not less than the %d that the header says\n", RITHENNAW_STACK);
                 status = 1;

@@ -3,8 +3,9 @@ ghost use Prim.Native.Nat.{_<_, max};
 ghost use mathlib.Core.Path.{_≡_};
 ghost use denote.Ref.{ptr};
 ghost use Rattle.wire.specs.Slices.{offsetBy};
+ghost use Rattle.instruction.specs.Program.{count};
 ghost use Rattle.machine.specs.Valid.{isProgramLength, mailInRange, fieldsInRange, sparesUnused};
-ghost use Rattle.image.specs.Refusal.{_then_, unless, recordNumber, versionNumber, programNumber, turnSlotNumber};
+ghost use Rattle.image.specs.Refusal.{_then_, unless, recordNumber, versionNumber, instructionsNumber, programNumber, turnSlotNumber};
 ghost use Rattle.image.specs.Record.{taskOf, slotOf};
 ghost use Rattle.image.specs.Image.{programLength, programOf, turnSlotOf, slotsPart, recordLength, recordOf, behind, skip, slotsOf};
 ghost use Rattle.image.specs.Refusal.{isRecordLength, slotNumber, slotsNumber, tailNumber, estateNumber, imageNumber};
@@ -116,10 +117,17 @@ fn version_number(image: &[u8]) -> u8
 }
 
 // A multiple of 4 from 4 to 1,024.
-fn is_program_length(l: usize) -> bool
+pub fn is_program_length(l: usize) -> bool
     ensures { λ r. ⌜ r ≡ isProgramLength l ⌝ }
 {
     (l % 4 == 0) & (4 <= l) & (l <= 1024)
+}
+
+// The instructions of a program's bytes.
+pub fn instructions_number(program: &[u8]) -> u8
+    ensures { λ r. ⌜ r ≡ instructionsNumber (count (now (program .entry))) (now (program .entry)) ⌝ }
+{
+    unless(instruction::all_legal(program), 6)
 }
 
 fn program_number(image: &[u8]) -> u8
@@ -133,7 +141,7 @@ fn program_number(image: &[u8]) -> u8
         if image.len() < PROGRAM_AT + l {
             return 3;
         }
-        unless(instruction::all_legal(program(image)), 6)
+        instructions_number(program(image))
     } else {
         5
     }

@@ -1,17 +1,15 @@
--- The arms of the two matches, over the code and over the instruction: one law serves every arm, whatever their number.
+-- The arms of a match over the code: one law serves every arm, whatever their number.
 use Prim.Native.Nat.{ℕ}
 use mathlib.Core.Path.{_≡_, refl}
 use mathlib.Core.Bool.{and-true}
 use mathlib.Core.List.{List, [], _∷_}
 use borrow.Author.Tests.{ne-eqb}
-use Rattle.instruction.specs.declared.Instruction.{Instruction}
 use Rattle.instruction.specs.declared.Decoded.{Decoded}
 use Rattle.instruction.specs.declared.Decoded.the-variants.{Illegal}
-use Rattle.instruction.specs.Table.{Row, table, decodeBy, decode}
-use Rattle.instruction.specs.Encode.{encode}
+use Rattle.instruction.specs.Table.{Row, table, byCode, decodeBy, decode}
 
 -- where the code is the number k, the table computes to k's row
-pub decode-at : (d : Decoded) (n code k a b c : ℕ) → code ≡ k → d ≡ decodeBy table n k a b c → d ≡ decode n code a b c
+pub decode-at : (d : Decoded) (n code k a b c : ℕ) → code ≡ k → d ≡ byCode (decodeBy n a b c) Illegal table k → d ≡ decode n code a b c
 unfolding decode
 decode-at d n code k a b c e h = rw e h
 
@@ -19,7 +17,7 @@ decode-at d n code k a b c e h = rw e h
 pub ruleset by-row = (decode-at, and-true)
 
 -- what the last arm is given: arm after arm, that the code is not that row's; P is what the arms ahead of them gave
-abbrev NoRow : Type 0 → ℕ → List Row → Type 0
+abbrev pub NoRow : Type 0 → ℕ → List Row → Type 0
 NoRow P code [] = P
 NoRow P code (r ∷ rs) = NoRow (P × (code ≡ r .code → ⊥)) code rs
 
@@ -27,16 +25,16 @@ given-ahead : (P : Type 0) (code : ℕ) (rs : List Row) → NoRow P code rs → 
 given-ahead P code [] p = p
 given-ahead P code (r ∷ rs) p = given-ahead (P × (code ≡ r .code → ⊥)) code rs p .0
 
-no-row : (P : Type 0) (rs : List Row) (n code a b c : ℕ) → NoRow P code rs → Illegal ≡ decodeBy rs n code a b c
-no-row P [] n code a b c p = refl
-no-row P (r ∷ rs) n code a b c p =
-    let ih = no-row (P × (code ≡ r .code → ⊥)) rs n code a b c p in
+no-row : {A : Type 0} (f : Row → A) (d : A) (P : Type 0) (rs : List Row) (code : ℕ) → NoRow P code rs → d ≡ byCode f d rs code
+no-row f d P [] code p = refl
+no-row f d P (r ∷ rs) code p =
+    let ih = no-row f d (P × (code ≡ r .code → ⊥)) rs code p in
     rw (ne-eqb code (r .code) (given-ahead (P × (code ≡ r .code → ⊥)) code rs p .1)) ih
+
+-- of a code that no row of the table has
+pub none-by-code : {A : Type 0} (f : Row → A) (d : A) (code : ℕ) → NoRow (Unit {0}) code table → d ≡ byCode f d table code
+none-by-code f d = no-row f d (Unit {0}) table
 
 pub decode-none : (n code a b c : ℕ) → NoRow (Unit {0}) code table → Illegal ≡ decode n code a b c
 unfolding decode
-decode-none = no-row (Unit {0}) table
-
--- where the instruction is the form j, its bytes compute
-pub encode-at : (w : List ℕ) (i j : Instruction) → i ≡ j → w ≡ encode j → w ≡ encode i
-encode-at w i j e h = rw e h
+decode-none n code a b c = none-by-code (decodeBy n a b c) Illegal code

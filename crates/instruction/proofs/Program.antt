@@ -13,7 +13,7 @@ use Rattle.instruction.specs.declared.Instruction.{Instruction}
 use Rattle.instruction.specs.declared.Decoded.the-variants.{Legal, Illegal}
 use Rattle.instruction.specs.Table.{decode}
 use Rattle.instruction.specs.Program.{count, instructionAt, isLegal, allLegal}
-use Rattle.instruction.specs.Encode.{encode}
+use Rattle.instruction.proofs.Encode.{encode}
 use Rattle.instruction.proofs.Table.{Sound, encode-decode, decode-sound}
 
 module _ (program : List ℕ) (pc : ℕ) where

@@ -12,9 +12,9 @@ use Rattle.wire.proofs.Lists.{split, and-both}
 use Rattle.instruction.specs.declared.Instruction.{Instruction}
 use Rattle.instruction.specs.declared.Instruction.the-variants.{End, Set, Copy, Add, Subtract, Go, Zero, Raise, Send, Take, Poll, Sandbox, Identity}
 use Rattle.instruction.specs.declared.Decoded.{Decoded}
-use Rattle.instruction.specs.declared.Decoded.the-variants.{Legal}
-use Rattle.instruction.specs.Table.{Operand, R, T, L, S, any, blank, admits, Row, table, legalIf, decodeBy, decode}
-use Rattle.instruction.specs.Encode.{encode}
+use Rattle.instruction.specs.declared.Decoded.the-variants.{Legal, Illegal}
+use Rattle.instruction.specs.Table.{Operand, R, T, L, S, any, blank, admits, Row, table, legalIf, byCode, decodeBy, decode}
+use Rattle.instruction.proofs.Encode.{encode}
 
 -- ---- bytes to an instruction and back
 
@@ -51,7 +51,7 @@ row-back r w n a b c true t i e =
     cc (w a b c, shown-is (r .a) n a (ab .0), shown-is (r .b) n b (ab .1), shown-is (r .c) n c (abc .1))
 row-back r w n a b c false t i e = cc
 
-rows-back : (rs : List Row) → Every Written rs → (n code a b c : ℕ) (i : Instruction) → decodeBy rs n code a b c ≡ Legal i → encode i ≡ code ∷ a ∷ b ∷ c ∷ []
+rows-back : (rs : List Row) → Every Written rs → (n code a b c : ℕ) (i : Instruction) → byCode (decodeBy n a b c) Illegal rs code ≡ Legal i → encode i ≡ code ∷ a ∷ b ∷ c ∷ []
 rows-back [] w n code a b c i e = cc
 rows-back (r ∷ rs) w n code a b c i e =
     let ih = rows-back rs (w .1) n code a b c i in
@@ -129,7 +129,7 @@ Within S n x = (1 ≤ x) × (x ≤ 15)
 Within any n x = Unit {0}
 Within blank n x = x ≡ 0
 
-within : (o : Operand) (n x : ℕ) → admits o n x ≡ true → Within o n x
+pub within : (o : Operand) (n x : ℕ) → admits o n x ≡ true → Within o n x
 within R n x t = ltb-true x 8 t
 within T n x t = ltb-true x n t
 within L n x t = omega (arith, ltb-true x 16 t)

@@ -1,4 +1,3 @@
 -- The definitions of the crate `instruction`, a file each.
 pub mod Table
 pub mod Program
-pub mod Encode

@@ -1,5 +1,6 @@
 -- The table of instructions as data, and what four bytes decode to.
 use Prim.Native.Nat.{ℕ}
+use Prim.Native.String.{String}
 use mathlib.Core.Bool.{Bool, true, false, cond, _&&_}
 use mathlib.Core.List.{List, [], _∷_}
 use lib.Dec.{leb, ltb, eqb}
@@ -22,45 +23,49 @@ admits S n x = leb 1 x && leb x 15
 admits any n x = true
 admits blank n x = eqb x 0
 
--- a row of the table: the code, the operands a b c, and the form that carries them
+-- a row of the table: the code, the word, the operands a b c, and the form that carries them
 pub record Row : Type 0 where
   pub code : ℕ
+  pub word : String
   pub a : Operand
   pub b : Operand
   pub c : Operand
   pub form : ℕ → ℕ → ℕ → Instruction
 
-abbrev pub row : ℕ → Operand → Operand → Operand → (ℕ → ℕ → ℕ → Instruction) → Row
-row k x y z f = record { code = k; a = x; b = y; c = z; form = f }
+abbrev pub row : ℕ → String → Operand → Operand → Operand → (ℕ → ℕ → ℕ → Instruction) → Row
+row k w x y z f = record { code = k; word = w; a = x; b = y; c = z; form = f }
 
 abbrev pub table : List Row
 table =
-    row 0x00 blank blank blank (λ a b c. End)
-    ∷ row 0x01 R any any (λ a b c. Set a b c)
-    ∷ row 0x02 R R blank (λ a b c. Copy a b)
-    ∷ row 0x03 R R R (λ a b c. Add a b c)
-    ∷ row 0x04 R R R (λ a b c. Subtract a b c)
-    ∷ row 0x05 T blank blank (λ a b c. Go a)
-    ∷ row 0x06 R T blank (λ a b c. Zero a b)
-    ∷ row 0x07 L blank blank (λ a b c. Raise a)
-    ∷ row 0x08 R L R (λ a b c. Send a b c)
-    ∷ row 0x09 R R blank (λ a b c. Take a b)
-    ∷ row 0x0A R R T (λ a b c. Poll a b c)
-    ∷ row 0x0B R T S (λ a b c. Sandbox a b c)
-    ∷ row 0x0C R R blank (λ a b c. Identity a b)
+    row 0x00 "end" blank blank blank (λ a b c. End)
+    ∷ row 0x01 "set" R any any (λ a b c. Set a b c)
+    ∷ row 0x02 "copy" R R blank (λ a b c. Copy a b)
+    ∷ row 0x03 "add" R R R (λ a b c. Add a b c)
+    ∷ row 0x04 "subtract" R R R (λ a b c. Subtract a b c)
+    ∷ row 0x05 "go" T blank blank (λ a b c. Go a)
+    ∷ row 0x06 "zero" R T blank (λ a b c. Zero a b)
+    ∷ row 0x07 "raise" L blank blank (λ a b c. Raise a)
+    ∷ row 0x08 "send" R L R (λ a b c. Send a b c)
+    ∷ row 0x09 "take" R R blank (λ a b c. Take a b)
+    ∷ row 0x0A "poll" R R T (λ a b c. Poll a b c)
+    ∷ row 0x0B "sandbox" R T S (λ a b c. Sandbox a b c)
+    ∷ row 0x0C "self" R R blank (λ a b c. Identity a b)
     ∷ []
 
 abbrev pub legalIf : Bool → Instruction → Decoded
 legalIf true i = Legal i
 legalIf false i = Illegal
 
--- the row with the code decides
-abbrev pub decodeBy : List Row → ℕ → ℕ → ℕ → ℕ → ℕ → Decoded
-decodeBy [] n code a b c = Illegal
-decodeBy (r ∷ rs) n code a b c =
-    cond (eqb code (r .code)) (legalIf (admits (r .a) n a && admits (r .b) n b && admits (r .c) n c) (r .form a b c))
-    (decodeBy rs n code a b c)
+-- what f makes of the row with the code, and d where there is none
+module _ {A : Type 0} where
+  abbrev pub byCode : (Row → A) → A → List Row → ℕ → A
+  byCode f d [] code = d
+  byCode f d (r ∷ rs) code = cond (eqb code (r .code)) (f r) (byCode f d rs code)
+
+-- a row with operands, in a program of n instructions
+abbrev pub decodeBy : ℕ → ℕ → ℕ → ℕ → Row → Decoded
+decodeBy n a b c r = legalIf (admits (r .a) n a && admits (r .b) n b && admits (r .c) n c) (r .form a b c)
 
 -- the instruction in the four bytes code a b c, in a program of n instructions
 unfoldable pub decode : ℕ → ℕ → ℕ → ℕ → ℕ → Decoded
-decode n code a b c = decodeBy table n code a b c
+decode n code a b c = byCode (decodeBy n a b c) Illegal table code

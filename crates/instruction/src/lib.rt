@@ -2,7 +2,6 @@
 ghost use mathlib.Core.Path.{_≡_};
 ghost use Rattle.instruction.specs.Table.{legalIf, decode};
 ghost use Rattle.instruction.specs.Program.{instructionAt, isLegal, allLegal};
-ghost use Rattle.instruction.specs.Encode.{encode};
 
 // Document 01's table, a case to a row; `Identity` is its word self, which the language reserves.
 pub enum Instruction {
@@ -66,27 +65,6 @@ pub fn decode(n: usize, code: u8, a: u8, b: u8, c: u8) -> Decoded
         ),
         0x0C => legal_if((a < 8) & (b < 8) & (c == 0), Instruction::Identity(a, b)),
         _ => Decoded::Illegal,
-    }
-}
-
-// The four bytes of an instruction.
-pub fn encode(i: Instruction) -> [u8; 4]
-    ensures { λ r. ⌜ r ≡ encode i ⌝ }
-{
-    match i {
-        Instruction::End => [0x00, 0, 0, 0],
-        Instruction::Set(a, b, c) => [0x01, a, b, c],
-        Instruction::Copy(a, b) => [0x02, a, b, 0],
-        Instruction::Add(a, b, c) => [0x03, a, b, c],
-        Instruction::Subtract(a, b, c) => [0x04, a, b, c],
-        Instruction::Go(a) => [0x05, a, 0, 0],
-        Instruction::Zero(a, b) => [0x06, a, b, 0],
-        Instruction::Raise(a) => [0x07, a, 0, 0],
-        Instruction::Send(a, b, c) => [0x08, a, b, c],
-        Instruction::Take(a, b) => [0x09, a, b, 0],
-        Instruction::Poll(a, b, c) => [0x0A, a, b, c],
-        Instruction::Sandbox(a, b, c) => [0x0B, a, b, c],
-        Instruction::Identity(a, b) => [0x0C, a, b, 0],
     }
 }
 

@@ -10,6 +10,13 @@ highestLabel = 15
 abbrev pub longestProgram : ℕ
 longestProgram = 1024
 
+-- the lines of a program as text, and their bytes: none has more than seventeen
+abbrev pub mostLines : ℕ
+mostLines = 256
+
+abbrev pub longestListing : ℕ
+longestListing = 4352
+
 abbrev pub highestSlot : ℕ
 highestSlot = 15
 

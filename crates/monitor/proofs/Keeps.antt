@@ -51,7 +51,7 @@ valueOf a = a .1 .1 .1 .0
 abbrev pub postOutputOf : {A B C D E F : Type 0} → A × (B × (C × (D × (E × F)))) → E
 postOutputOf a = a .1 .1 .1 .1 .0
 
--- of a program the input, and of a refusal its number, stand in the image's place
+-- of a program the input, of writer and lister the text and the program, and of a refusal its number stand in the image's place
 abbrev pub inputOf : {A B : Type 0} → A × B → A
 inputOf a = a .0
 

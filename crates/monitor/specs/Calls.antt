@@ -1,6 +1,6 @@
--- The calls that write: what each tells, and what its output holds afterwards; the sheet's is in sheet/specs/Sheet.antt. Of the
--- others `check` tells `imageNumber` (image/specs/Refusal.antt), and `record` and `record_extent` tell `recordPart` and
--- `recordExtent` (image/specs/Part.antt).
+-- The calls that write: what each tells, and what its output holds afterwards; the sheet's is in sheet/specs/Sheet.antt, those of
+-- writer and lister are in listing/specs/Listing.antt. Of the others `check` tells `imageNumber` (image/specs/Refusal.antt), and
+-- `record` and `record_extent` tell `recordPart` and `recordExtent` (image/specs/Part.antt).
 use Prim.Native.Nat.{ℕ}
 use mathlib.Core.Path.{_≡_}
 use mathlib.Core.Bool.{Bool, cond, _&&_}

@@ -57,8 +57,8 @@ LimitsAreRefused =
     → Exactly (callAnswer (postCall slot label value image) out .number ≡ 14) (highestSlot < slot)
     × Exactly (callAnswer (postCall slot label value image) out .number ≡ 15) ((slot ≤ highestSlot) × (highestLabel < label)))
 
--- "The first met is given; none of them in any other event": each number of a call by what gives it. 3 to 12 come from the image
--- alone, or what else it reads, where the arguments have none; 13 from the output, where neither has one; every other from the arguments alone
+-- "The first met is given; none of them in any other event": each number of a call that reads an image, by what gives it. 3 to 12 come
+-- from the image alone, where the arguments have none; 13 from the output, where neither has one; every other from the arguments alone
 pub record NumbersByCause (c : Call) (out : List ℕ) : Type 0 where
   pub accepted : Exactly (callAnswer c out .number ≡ 0) ((c .argumentNumber ≡ 0) × (c .inputNumber ≡ 0) × (length (c .bytes) ≤ length out))
   pub fromArgument : (k : ℕ) → 1 ≤ k → (3 ≤ k → k ≤ 13 → ⊥) → Exactly (callAnswer c out .number ≡ k) (c .argumentNumber ≡ k)

@@ -12,8 +12,9 @@ use Rattle.monitor.specs.Calls.{Call, callAnswer, CallPromise, rewriteCall, tur
 use Rattle.monitor.specs.CallList.{askTurns, askPost, Fits, KeptPromise}
 use Rattle.monitor.specs.Claims.{Accepted, Exactly}
 use Rattle.monitor.proofs.Calls.{busy-0}
-use Rattle.monitor.proofs.Keeps.{Keeps, imageOf, slotNumberOf, countOf, observerOf, outputOf, labelOf, valueOf, postOutputOf, soleOutputOf}
+use Rattle.monitor.proofs.Keeps.{Keeps, imageOf, slotNumberOf, countOf, observerOf, outputOf, labelOf, valueOf, postOutputOf, soleOutputOf, inputOf}
 use Rattle.sheet.specs.Sheet.{sheetCall}
+use Rattle.listing.specs.Listing.{AssemblePromise, disassembleCall}
 use Rattle.rithennaw.specs.Told.{Told}
 use Rattle.rithennaw.proofs.rithennaw_check as Check
 use Rattle.rithennaw.proofs.rithennaw_check.Symbol as CheckCode
@@ -36,6 +37,12 @@ use Rattle.rithennaw.proofs.rithennaw_view.Met as ViewMet
 use Rattle.rithennaw.proofs.rithennaw_sheet as Sheet
 use Rattle.rithennaw.proofs.rithennaw_sheet.Symbol as SheetCode
 use Rattle.rithennaw.proofs.rithennaw_sheet.Met as SheetMet
+use Rattle.rithennaw.proofs.rithennaw_assemble as Assemble
+use Rattle.rithennaw.proofs.rithennaw_assemble.Symbol as AssembleCode
+use Rattle.rithennaw.proofs.rithennaw_assemble.Met as AssembleMet
+use Rattle.rithennaw.proofs.rithennaw_disassemble as Disassemble
+use Rattle.rithennaw.proofs.rithennaw_disassemble.Symbol as DisassembleCode
+use Rattle.rithennaw.proofs.rithennaw_disassemble.Met as DisassembleMet
 
 -- ---- the numbers that are told through a pointer, by name, behind the arguments of the call
 
@@ -91,14 +98,23 @@ module _ {M : Type 1} where
       (λ κs a r e. Told (now (imageOf a)) (sheetCall (observerOf a) (now (imageOf a))) (now (outputOf a)) r (now (lengthOf e)) (now (outputOf e)))
   rithennaw-sheet-keeps = SheetMet.met
 
+  pub rithennaw-assemble-keeps : Keeps M Assemble.ended AssembleCode.routine
+      (λ κs a r e. AssemblePromise (now (inputOf a)) (now (soleOutputOf a)) (record { number = r; length = now (soleLengthOf e); busy = 0 }) (now (soleOutputOf e))
+      × Bytes (now (inputOf a)))
+  rithennaw-assemble-keeps = AssembleMet.met
+
+  pub rithennaw-disassemble-keeps : Keeps M Disassemble.ended DisassembleCode.routine
+      (λ κs a r e. Told (now (inputOf a)) (disassembleCall (now (inputOf a))) (now (soleOutputOf a)) r (now (soleLengthOf e)) (now (soleOutputOf e)))
+  rithennaw-disassemble-keeps = DisassembleMet.met
+
 -- ---- from what they told to what the claims are about
 
 -- 0 from `rithennaw_check` tells an accepted image, and only that
 pub check-accepted : (image : List ℕ) {number : ℕ} → (number ≡ imageNumber image) × Bytes image → Exactly (number ≡ 0) (Accepted image)
 check-accepted image told = (λ none. record { bytes = told .1; number = sym (told .0) ∙ none }, λ a. told .0 ∙ a .number)
 
--- What a call told and wrote keeps the promise. That its number 0 tells an accepted image is monitor's law `number-0-accepted`,
--- since the call promises that the image is bytes.
+-- What a call told and wrote keeps the promise; what `rithennaw_assemble` promises is the claims' own. That number 0 of a call that reads
+-- an image tells an accepted one is monitor's law `number-0-accepted`, since the call promises that the image is bytes.
 module _ (input : List ℕ) (c : Call) (out : List ℕ) {number length : ℕ} {after : List ℕ} (told : Told input c out number length after) where
   -- number, length and busy count are the answer
   pub told-promise : {busy : ℕ} → busy ≡ callAnswer c out .busy → CallPromise c out (record { number = number; length = length; busy = busy }) after

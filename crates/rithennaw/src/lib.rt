@@ -1,7 +1,7 @@
-// The C interface, which include/rithennaw.h declares: each function hands its arguments to a call of the monitor or the
-// sheet's, and what the call tells to the caller. A `&[u8]` is a pointer and then a length. Each that tells a number promises as
-// well that what it was lent as the image is bytes: with number 0 that makes an accepted image. A post promises too that its value
-// fits into 32 bits, which the secrecy rule asks of it.
+// The C interface, which include/rithennaw.h declares: each function hands its arguments to a call of the monitor, the sheet's or the
+// listing's, and what the call tells to the caller. A `&[u8]` is a pointer and then a length. Each that tells a number promises as
+// well that what it was lent as image, text or program is bytes: of an image number 0 then makes an accepted one, and of a program the
+// claims ask for it. A post promises too that its value fits into 32 bits, which the secrecy rule asks of it.
 ghost use mathlib.Core.Path.{_≡_};
 ghost use mathlib.Core.Bool.{cond};
 ghost use Rattle.wire.specs.Lists.{Bytes};
@@ -10,6 +10,7 @@ ghost use Rattle.image.specs.Part.{recordExtent};
 ghost use Rattle.monitor.specs.Calls.{callAnswer, rewriteCall, turnsCall, postCall, postDelivered, viewCall};
 ghost use Rattle.monitor.specs.CallList.{askPost, Fits};
 ghost use Rattle.sheet.specs.Sheet.{sheetCall};
+ghost use Rattle.listing.specs.Listing.{AssemblePromise, disassembleCall};
 ghost use Rattle.rithennaw.specs.Told.{Told};
 
 // The number of an image, 0 where it is accepted.
@@ -109,4 +110,25 @@ pub extern "C" fn rithennaw_sheet(
     let listed = sheet::write(image, observer, out);
     *length = listed.length;
     listed.number
+}
+
+// Writes the program of a text.
+#[no_mangle]
+pub extern "C" fn rithennaw_assemble(text: &[u8], out: &mut [u8], length: &mut usize) -> u8
+    ensures { λ r. ⌜ AssemblePromise (now (text .entry)) (now (out .entry)) (record { number = r; length = now (length .exit); busy = 0 }) (now (out .exit))
+        × Bytes (now (text .entry)) ⌝ }
+{
+    let assembled = listing::assemble(text, out);
+    *length = assembled.length;
+    assembled.number
+}
+
+// Writes the text of a program.
+#[no_mangle]
+pub extern "C" fn rithennaw_disassemble(program: &[u8], out: &mut [u8], length: &mut usize) -> u8
+    ensures { λ r. ⌜ Told (now (program .entry)) (disassembleCall (now (program .entry))) (now (out .entry)) r (now (length .exit)) (now (out .exit)) ⌝ }
+{
+    let disassembled = listing::disassemble(program, out);
+    *length = disassembled.length;
+    disassembled.number
 }

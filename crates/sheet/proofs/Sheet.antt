@@ -3,9 +3,10 @@ use Prim.Native.Nat.{ℕ, _+_, _<_, _≤_}
 use mathlib.Core.Path.{_≡_, sym, ap}
 use mathlib.Core.List.{List, [], _∷_, _++_}
 use native.Mathlib.Omega.{arith}
-use lib.ListN.{length, length-append, List·getD-map}
+use lib.ListN.{length, getD, length-append, List·getD-map}
 use Rattle.wire.specs.Lists.{tabulate, Bytes}
 use Rattle.wire.specs.Items.{encodeItems}
+use Rattle.wire.proofs.Lists.{every-of}
 use Rattle.wire.proofs.Items.{items-most}
 use Rattle.label.specs.Label.{flows}
 use Rattle.instruction.specs.Program.{count}
@@ -81,7 +82,9 @@ sheet-length s ok =
     let n : count (s .program) ≤ 256 = omega (arith, size-facts (length (s .program)) (ok .size)) in
     let line : (k : ℕ) → length (slotLine k (slotAt (s .slots) k)) ≤ 18
     = λ k. slot-line-length (count (s .program)) k (slotAt (s .slots) k) n (ok .tasks k) in
-    let lines = items-most (λ k. slotLine k (slotAt (s .slots) k)) 18 line (tabulate 16 (λ k. k)) in
+    let slots = tabulate 16 (λ k. k) in
+    let lines = items-most (λ k. slotLine k (slotAt (s .slots) k)) 18 slots
+    (every-of (λ k. length (slotLine k (slotAt (s .slots) k)) ≤ 18) 0 slots (λ i. line (getD slots i 0))) in
     rw length-append (omega (arith, lines))
 
 -- of a view of an accepted image

@@ -9,7 +9,6 @@ ghost use Rattle.table.specs.Table.{slotsIn};
 ghost use Rattle.table.specs.Change.{taskAt};
 ghost use Rattle.monitor.specs.Calls.{CallPromise};
 ghost use Rattle.monitor.specs.Inner.{outputAnswer};
-ghost use Rattle.text.specs.Text.{decimal, spaced, lineRest};
 ghost use Rattle.sheet.specs.Sheet.{sheetCall, refusalLine, printed};
 ghost use Rattle.sheet.specs.Inner.{shownTaskLine, shownLine, shownLines, shownSheet};
 

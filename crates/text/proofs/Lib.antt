@@ -1,2 +1,3 @@
 -- The laws of the crate `text`, a file each.
 pub mod Text
+pub mod Reading

@@ -27,11 +27,11 @@ digits-same (suc k) (suc m) x h l =
     (λ e. let big : 10 ≤ x = ltb-false x 10 e in
     rw (e, digits-same k m (x / 10) (omega arith) (omega arith)))
 
-decimal-digit : (x : ℕ) → x < 10 → decimal x ≡ (48 + x % 10) ∷ []
+pub decimal-digit : (x : ℕ) → x < 10 → decimal x ≡ (48 + x % 10) ∷ []
 unfolding decimal digits
 decimal-digit x h = rw (lt-ltb x 10 h)
 
-decimal-more : (x : ℕ) → 10 ≤ x → decimal x ≡ decimal (x / 10) ++ ((48 + x % 10) ∷ [])
+pub decimal-more : (x : ℕ) → 10 ≤ x → decimal x ≡ decimal (x / 10) ++ ((48 + x % 10) ∷ [])
 unfolding decimal digits
 decimal-more x h =
     rw (le-ltb x 10 h) (ap (λ (d : List ℕ). d ++ ((48 + x % 10) ∷ [])) (digits-same x (suc (x / 10)) (x / 10) (omega arith) (omega arith)))

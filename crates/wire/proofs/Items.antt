@@ -7,7 +7,7 @@ use native.Mathlib.Nat.{mul-zero, mul-one, mul-suc, not-suc-le-zero, le-of-suc-l
 use native.Mathlib.Numerals.{add-one}
 use native.Mathlib.Omega.{arith}
 use lib.ListN.{length, getD, take, drop, length-append, length-drop, drop-of-length-le}
-use lib.Seq.{take-add, drop-at, drop-drop, drop-cons}
+use lib.Seq.{take-add, drop-at, drop-drop, drop-cons, getD-at}
 use Rattle.wire.specs.Lists.{Every, keep, Bytes}
 use Rattle.wire.proofs.Lists.{IsByte, split, every-drop, every-append}
 use Rattle.wire.specs.Items.{decodeItems, encodeItems}
@@ -33,6 +33,9 @@ module _ {A : Type 0} (w : ℕ) (f : List ℕ → A) where
       let d : suc k - (suc j + 1) ≡ k - (j + 1) = omega arith in
       let e : suc j + 1 ≡ suc (j + 1) = omega arith in
       rw (d, e, ← drop-item j b, ← drop-item (j + 1) b) (ap (λ (r : List A). f b ∷ r) (decode-at k j (drop w b) (le-of-suc-le-suc h)))
+
+  pub getD-decode : (k j : ℕ) (b : List ℕ) (d : A) → j < k → getD (decodeItems w f k b) j d ≡ f (drop (w * j) b)
+  getD-decode k j b d h = rw (decode-at k j b h) (getD-at (decodeItems w f j b) (f (drop (w * j) b)) _ d j (length-decode j b))
 
   -- one item more
   pub decode-more : (k : ℕ) (b : List ℕ) → decodeItems w f (suc k) b ≡ decodeItems w f k b ++ (f (drop (w * k) b) ∷ [])
@@ -83,6 +86,11 @@ module _ {A : Type 0} (g : A → List ℕ) where
   unfolding encodeItems
   count-all xs i n h p = let none : length (encodeItems g (drop i xs)) ≡ 0 = rw (drop-of-length-le xs {i = i} h) in omega arith
 
+  pub items-append : (xs ys : List A) → encodeItems g (xs ++ ys) ≡ encodeItems g xs ++ encodeItems g ys
+  unfolding encodeItems
+  items-append [] ys = refl
+  items-append (x ∷ xs) ys = rw (items-append xs ys) (sym (append-assoc (g x) (encodeItems g xs) (encodeItems g ys)))
+
   -- items made of others
   pub items-map : {B : Type 0} (f : B → A) (xs : List B) → encodeItems g (map f xs) ≡ encodeItems (λ x. g (f x)) xs
   unfolding encodeItems
@@ -104,13 +112,13 @@ module _ {A : Type 0} (g : A → List ℕ) where
       rw (length-append, size x, ih, e)
 
   -- at most w bytes each
-  pub items-most : (w : ℕ) → ((x : A) → length (g x) ≤ w) → (xs : List A) → length (encodeItems g xs) ≤ w * length xs
+  pub items-most : (w : ℕ) (xs : List A) → Every (λ x. length (g x) ≤ w) xs → length (encodeItems g xs) ≤ w * length xs
   unfolding encodeItems
-  items-most w most [] = omega arith
-  items-most w most (x ∷ xs) =
-      let ih = items-most w most xs in
+  items-most w [] most = omega arith
+  items-most w (x ∷ xs) most =
+      let ih = items-most w xs (most .1) in
       let e : w * suc (length xs) ≡ w + w * length xs = rw mul-suc (omega arith) in
-      rw (length-append, e) (omega (arith, most x))
+      rw (length-append, e) (omega (arith, most .0))
 
   pub items-bytes : (P : A → Type 0) → ((x : A) → P x → Bytes (g x)) → (xs : List A) → Every P xs → Bytes (encodeItems g xs)
   unfolding encodeItems

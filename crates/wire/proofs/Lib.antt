@@ -4,3 +4,4 @@ pub mod Numbers
 pub mod Items
 pub mod Output
 pub mod Tabulate
+pub mod Equal

@@ -24,8 +24,19 @@ pub and-both : (a b : Bool) → (a && b) ≡ true → (a ≡ true) × (b ≡ tru
 and-both true b e = (refl, e)
 and-both false b e = (e, cc)
 
+pub same-tests : (a b : Bool) → (a ≡ true → b ≡ true) → (b ≡ true → a ≡ true) → a ≡ b
+same-tests true b f g = sym (f refl)
+same-tests false true f g = g refl
+same-tests false false f g = refl
+
 pub and-intro : (a b : Bool) → a ≡ true → b ≡ true → (a && b) ≡ true
 and-intro a b e f = rw (e, f)
+
+and-exchange : (a b c d : Bool) → ((a && b) && (c && d)) ≡ ((a && c) && (b && d))
+and-exchange true true c d = refl
+and-exchange true false true d = refl
+and-exchange true false false d = refl
+and-exchange false b c d = refl
 
 -- ---- numbers below a bound
 
@@ -169,6 +180,33 @@ module _ {A : Type 0} where
   all-append p [] ys = refl
   all-append p (x ∷ xs) ys = let ih = all-append p xs ys in split (p x) (λ e. rw (e, ih)) (λ e. rw e)
 
+  -- of each element by its index, and the other way round
+  pub all-at : (p : A → Bool) (d : A) (xs : List A) → all p xs ≡ true → (i : ℕ) → i < length xs → p (getD xs i d) ≡ true
+  unfolding all
+  all-at p d [] e i h = absurd (not-suc-le-zero h)
+  all-at p d (x ∷ xs) e zero h = and-both (p x) (all p xs) e .0
+  all-at p d (x ∷ xs) e (suc i) h = all-at p d xs (and-both (p x) (all p xs) e .1) i (omega arith)
+
+  pub all-intro : (p : A → Bool) (d : A) (xs : List A) → ((i : ℕ) → i < length xs → p (getD xs i d) ≡ true) → all p xs ≡ true
+  unfolding all
+  all-intro p d [] f = refl
+  all-intro p d (x ∷ xs) f = rw (f 0 (omega arith)) (all-intro p d xs (λ i h. f (suc i) (omega arith)))
+
+  -- two tests are one
+  pub all-and : (p q : A → Bool) (xs : List A) → all (λ x. p x && q x) xs ≡ (all p xs && all q xs)
+  unfolding all
+  all-and p q [] = refl
+  all-and p q (x ∷ xs) = rw (all-and p q xs) (and-exchange (p x) (q x) (all p xs) (all q xs))
+
+  -- a loop that goes up through the elements: the one at index i and those behind it, and none
+  pub all-next : (p : A → Bool) (xs : List A) (i : ℕ) (d : A) → i < length xs → all p (drop i xs) ≡ p (getD xs i d) && all p (drop (i + 1) xs)
+  unfolding all
+  all-next p xs i d h = rw (drop-cons xs i d h, add-one i)
+
+  pub all-done : (p : A → Bool) (xs : List A) (i : ℕ) → length xs ≤ i → all p (drop i xs) ≡ true
+  unfolding all
+  all-done p xs i h = rw (drop-of-length-le xs {i = i} h)
+
   pub keep-append : (p : A → Bool) (xs ys : List A) → keep p (xs ++ ys) ≡ keep p xs ++ keep p ys
   keep-append p [] ys = refl
   keep-append p (x ∷ xs) ys = let h = keep-append p xs ys in split (p x) (λ e. rw (e, h)) (λ e. rw (e, h))
@@ -236,9 +274,21 @@ module _ {A : Type 0} (p : A → Bool) where
   first-without [] = refl
   first-without (x ∷ xs) = let ih = first-without xs in split (p x) (λ e. rw e) (λ e. rw (e, ih))
 
-  first-le : (xs : List A) → firstIndex p xs ≤ length xs
+  pub first-le : (xs : List A) → firstIndex p xs ≤ length xs
   first-le [] = omega arith
   first-le (x ∷ xs) = let ih = first-le xs in split (p x) (λ e. rw e (omega arith)) (λ e. rw e (omega arith))
+
+  -- p passes at the element there
+  pub first-passes : (xs : List A) (d : A) → firstIndex p xs < length xs → p (getD xs (firstIndex p xs) d) ≡ true
+  first-passes [] d = λ h. absurd (not-suc-le-zero h)
+  first-passes (x ∷ xs) d =
+      let ih = first-passes xs d in
+      split (p x) (λ e. rw e (λ h. e)) (λ e. rw e (λ h. ih (omega arith)))
+
+  -- of elements at which p fails, with one behind them at which it passes
+  pub first-behind : (xs : List A) (y : A) (ys : List A) → Every (λ x. p x ≡ false) xs → p y ≡ true → firstIndex p (xs ++ y ∷ ys) ≡ length xs
+  first-behind [] y ys h t = rw t
+  first-behind (x ∷ xs) y ys h t = rw (h .0, first-behind xs y ys (h .1) t)
 
   -- a loop that goes up through the elements: p passes at the one at index i, or does not, or there is none
   pub first-here : (xs : List A) (i : ℕ) (d : A) → i < length xs → p (getD xs i d) ≡ true → i ≤ firstIndex p xs → i ≡ firstIndex p xs

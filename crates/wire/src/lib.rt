@@ -3,10 +3,11 @@
 ghost use Prim.Native.Nat.{_<_, min};
 ghost use mathlib.Core.Path.{_≡_};
 ghost use mathlib.Core.List.{[], _∷_};
+ghost use lib.Dec.{eqb};
 ghost use denote.Ref.{ptr};
 ghost use lib.ListN.{length, getD, take, drop};
 ghost use Rattle.wire.specs.Numbers.{decodeNumber, encodeNumber};
-ghost use Rattle.wire.specs.Inner.{written};
+ghost use Rattle.wire.specs.Inner.{written, same, firstIndex};
 ghost use Rattle.wire.specs.Slices.{offsetBy};
 
 // Byte i of s, and 0 past its end.
@@ -30,6 +31,40 @@ pub fn drop(s: &[u8], n: usize) -> &[u8]
 {
     let end = s.len();
     if n <= end { &s[n..] } else { &s[end..] }
+}
+
+// Whether s and t are the same bytes.
+pub fn same(s: &[u8], t: &[u8]) -> bool
+    ensures { λ r. ⌜ r ≡ same (now (s .entry)) (now (t .entry)) ⌝ }
+{
+    let n = s.len();
+    if n != t.len() {
+        return false;
+    }
+    let mut i: usize = 0;
+    while i < n {
+        if s[i] == t[i] {
+            i += 1;
+        } else {
+            return false;
+        }
+    }
+    true
+}
+
+// The index of the first byte x of s, its length where it has none.
+pub fn index_of(s: &[u8], x: u8) -> usize
+    ensures { λ r. ⌜ r ≡ firstIndex (λ y. eqb y x) (now (s .entry)) ⌝ }
+{
+    let n = s.len();
+    let mut i: usize = 0;
+    while i < n {
+        if s[i] == x {
+            return i;
+        }
+        i += 1;
+    }
+    i
 }
 
 // The number in the first two bytes of s; bytes past its end count as 0.

@@ -2,7 +2,9 @@
 
 mod clock;
 mod images;
+mod long_texts;
 mod measure;
+mod texts;
 
 use differential::calls::{Call, Post, BOTH};
 use images::Case;
@@ -12,7 +14,7 @@ use std::process::ExitCode;
 use std::time::Duration;
 
 /// The calls whose time is that of reading and writing an image.
-const SINGLE: [(&str, Call); 5] = [
+const IMAGE_CALLS: [(&str, Call); 5] = [
     ("turns, 0", Call::Turns(0)),
     ("post to slot 0", Call::Post(Post { slot: 0, label: 0, value: 1 })),
     ("rewrite", Call::Rewrite),
@@ -24,7 +26,7 @@ const SINGLE: [(&str, Call); 5] = [
 const REPEATS: u32 = 500;
 
 fn main() -> ExitCode {
-    match print_turns().and_then(|()| print_calls()) {
+    match print_turns().and_then(|()| print_calls()).and_then(|()| long_texts::print()) {
         Ok(()) => ExitCode::SUCCESS,
         Err(fault) => {
             eprintln!("bench: {fault}");
@@ -69,17 +71,25 @@ fn print_calls() -> Result<(), String> {
     println!("Microseconds of CPU time a call, mean of {REPEATS} calls, best of {RUNS} means");
     println!(
         "{:<44} {:<18} {:>7} {:>8} {:>8} {:>10} {:>6}",
-        "image", "call", "read", "written", "monitor", "reference", "ratio"
+        "input", "call", "read", "written", "monitor", "reference", "ratio"
     );
     for (name, image) in images::extremes() {
-        for (call_name, call) in SINGLE {
-            let measured = measure(BOTH, call, &image, REPEATS).map_err(|fault| format!("{name}: {fault}"))?;
-            let each = |time: Duration| time.as_secs_f64() * 1e6 / f64::from(REPEATS);
-            let (monitor, reference, ratio) = (each(measured.monitor), each(measured.reference), measured.ratio());
-            let (read, written) = (image.len(), measured.answer.length);
-            println!("{name:<44} {call_name:<18} {read:>7} {written:>8} {monitor:>8.2} {reference:>10.2} {ratio:>6.2}");
+        for (call_name, call) in IMAGE_CALLS {
+            print_call(name, call_name, call, &image)?;
         }
     }
+    let text = texts::full_list();
+    let program = rithennaw::assemble(&text).map_err(|refusal| format!("256 lines: {refusal}"))?;
+    print_call("text of 256 lines, every word in its turn", "assemble", Call::Assemble, &text)?;
+    print_call("program of the same 256 instructions", "disassemble", Call::Disassemble, &program)
+}
+
+fn print_call(name: &str, call_name: &str, call: Call, input: &[u8]) -> Result<(), String> {
+    let measured = measure(BOTH, call, input, REPEATS).map_err(|fault| format!("{name}: {fault}"))?;
+    let each = |time: Duration| time.as_secs_f64() * 1e6 / f64::from(REPEATS);
+    let (monitor, reference, ratio) = (each(measured.monitor), each(measured.reference), measured.ratio());
+    let (read, written) = (input.len(), measured.answer.length);
+    println!("{name:<44} {call_name:<18} {read:>7} {written:>8} {monitor:>8.2} {reference:>10.2} {ratio:>6.2}");
     Ok(())
 }
 

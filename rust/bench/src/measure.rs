@@ -25,12 +25,12 @@ impl Measured {
 }
 
 /// Times `repeats` calls in a row by the monitor and the reference; an error if a call is refused or the two differ.
-pub fn measure(both: [Implementation; 2], call: Call, image: &[u8], repeats: u32) -> Result<Measured, String> {
+pub fn measure(both: [Implementation; 2], call: Call, input: &[u8], repeats: u32) -> Result<Measured, String> {
     let [mut monitor, mut reference] = [Duration::MAX; 2];
     let mut last = None;
     for _ in 0..RUNS {
         let [(monitor_time, monitor_gave), (reference_time, reference_gave)] =
-            both.map(|implementation| timed(implementation, call, image, repeats));
+            both.map(|implementation| timed(implementation, call, input, repeats));
         monitor = monitor.min(monitor_time);
         reference = reference.min(reference_time);
         if monitor_gave != reference_gave {
@@ -47,12 +47,12 @@ pub fn measure(both: [Implementation; 2], call: Call, image: &[u8], repeats: u32
 }
 
 /// The time of these calls, what the last one told, and the whole output.
-fn timed(implementation: Implementation, call: Call, image: &[u8], repeats: u32) -> (Duration, (Answer, Vec<u8>)) {
+pub fn timed(implementation: Implementation, call: Call, input: &[u8], repeats: u32) -> (Duration, (Answer, Vec<u8>)) {
     let mut out = vec![0; IMAGE_MAX];
     let mut answer = None;
     let began = cpu_time();
     for _ in 0..repeats {
-        answer = Some((implementation.call)(call, black_box(image), black_box(&mut out)));
+        answer = Some((implementation.call)(call, black_box(input), black_box(&mut out)));
     }
     let time = cpu_time() - began;
     (time, (answer.expect("at least one call"), out))

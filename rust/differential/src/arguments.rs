@@ -34,7 +34,7 @@ pub fn post(rng: &mut Rng) -> Post {
     Post { slot: label(rng), label: label(rng), value: images::value(rng) }
 }
 
-/// The calls that write, each with its arguments.
+/// The calls that read an image and write, each with its arguments.
 pub fn calls(rng: &mut Rng) -> [Call; 5] {
     [Call::Rewrite, Call::Turns(count(rng)), Call::Post(post(rng)), Call::View(label(rng)), Call::Sheet(label(rng))]
 }

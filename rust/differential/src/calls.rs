@@ -12,7 +12,7 @@ pub struct Post {
     pub value: u32,
 }
 
-/// A call that writes, with its arguments.
+/// A call that writes, with its arguments. It reads an image; `Assemble` reads a text and `Disassemble` a program.
 #[derive(Debug, Clone, Copy, PartialEq, Eq)]
 pub enum Call {
     Rewrite,
@@ -20,6 +20,8 @@ pub enum Call {
     Post(Post),
     View(u32),
     Sheet(u32),
+    Assemble,
+    Disassemble,
 }
 
 /// What a call that writes tells. Only turns have a busy count, and only a post is delivered.
@@ -54,6 +56,12 @@ impl From<reference::PostAnswer> for Answer {
     }
 }
 
+impl From<reference::TextAnswer> for Answer {
+    fn from(told: reference::TextAnswer) -> Answer {
+        Answer { number: told.number, length: told.length, ..Answer::default() }
+    }
+}
+
 /// One that answers calls.
 #[derive(Debug, Clone, Copy)]
 pub struct Implementation {
@@ -76,28 +84,32 @@ pub const REFERENCE: Implementation =
 /// Both of them.
 pub const BOTH: [Implementation; 2] = [MONITOR, REFERENCE];
 
-fn monitor_call(call: Call, image: &[u8], out: &mut [u8]) -> Answer {
+fn monitor_call(call: Call, input: &[u8], out: &mut [u8]) -> Answer {
     let written = |length: usize| Answer { length, ..Answer::default() };
     let told = match call {
-        Call::Rewrite => rithennaw::rewrite_into(image, out).map(written),
+        Call::Rewrite => rithennaw::rewrite_into(input, out).map(written),
         Call::Turns(count) => {
-            rithennaw::turns_into(image, count, out).map(|told| Answer { busy: told.busy, ..written(told.length) })
+            rithennaw::turns_into(input, count, out).map(|told| Answer { busy: told.busy, ..written(told.length) })
         }
-        Call::Post(Post { slot, label, value }) => rithennaw::post_into(image, slot, label, value, out)
+        Call::Post(Post { slot, label, value }) => rithennaw::post_into(input, slot, label, value, out)
             .map(|told| Answer { delivered: told.delivered, ..written(told.length) }),
-        Call::View(observer) => rithennaw::view_into(image, observer, out).map(written),
-        Call::Sheet(observer) => rithennaw::sheet_into(image, observer, out).map(written),
+        Call::View(observer) => rithennaw::view_into(input, observer, out).map(written),
+        Call::Sheet(observer) => rithennaw::sheet_into(input, observer, out).map(written),
+        Call::Assemble => rithennaw::assemble_into(input, out).map(written),
+        Call::Disassemble => rithennaw::disassemble_into(input, out).map(written),
     };
     // The wrapper tells only the number of a refused call; tests/link sees that the archive's other figures are 0.
     told.unwrap_or_else(|refusal| Answer::refused(refusal.number()))
 }
 
-fn reference_call(call: Call, image: &[u8], out: &mut [u8]) -> Answer {
+fn reference_call(call: Call, input: &[u8], out: &mut [u8]) -> Answer {
     match call {
-        Call::Rewrite => reference::rewrite(image, out).into(),
-        Call::Turns(count) => reference::turns(image, count, out).into(),
-        Call::Post(Post { slot, label, value }) => reference::post(image, slot, label, value, out).into(),
-        Call::View(observer) => reference::view(image, observer, out).into(),
-        Call::Sheet(observer) => reference::sheet(image, observer, out).into(),
+        Call::Rewrite => reference::rewrite(input, out).into(),
+        Call::Turns(count) => reference::turns(input, count, out).into(),
+        Call::Post(Post { slot, label, value }) => reference::post(input, slot, label, value, out).into(),
+        Call::View(observer) => reference::view(input, observer, out).into(),
+        Call::Sheet(observer) => reference::sheet(input, observer, out).into(),
+        Call::Assemble => reference::assemble(input, out).into(),
+        Call::Disassemble => reference::disassemble(input, out).into(),
     }
 }

@@ -6,12 +6,10 @@ use crate::calls::{Call, Post};
 use crate::compare::{Comparison, ROOM_MAX};
 use crate::damage::{self, FAULTS};
 use crate::images::{self, MAIL_PER_LABEL};
-use crate::report::{Fact, Mismatch};
+use crate::report::{Fact, Mismatch, Outcome};
 use crate::rng::Rng;
 use layout::Image;
 use rithennaw::{IMAGE_MAX, TURNS_MAX};
-
-type Outcome = Result<(), Mismatch>;
 
 /// Seeds from one sweep over the bytes of an image to the next, and from one call with about 1,000,000 turns to the
 /// next.
@@ -53,7 +51,7 @@ fn accepted(comparison: &mut Comparison, rng: &mut Rng, image: &[u8]) -> Result<
         match call {
             Call::Turns(_) => after = agreed.bytes,
             Call::Post(_) | Call::View(_) => comparison.accepted(&agreed.bytes)?,
-            Call::Rewrite | Call::Sheet(_) => {}
+            Call::Rewrite | Call::Sheet(_) | Call::Assemble | Call::Disassemble => {}
         }
     }
     for _ in 0..3 {
@@ -77,13 +75,13 @@ fn posts_in_a_row(
 }
 
 /// An accepted call whose answer has that length, with outputs that are long enough and others that are not.
-fn outputs(comparison: &mut Comparison, rng: &mut Rng, call: Call, image: &[u8], length: usize) -> Outcome {
-    comparison.call(call, image, length)?;
+pub fn outputs(comparison: &mut Comparison, rng: &mut Rng, call: Call, input: &[u8], length: usize) -> Outcome {
+    comparison.call(call, input, length)?;
     comparison.tally.fact(Fact::JustEnough);
-    comparison.call(call, image, length - 1)?;
+    comparison.call(call, input, length - 1)?;
     comparison.tally.fact(Fact::ByteTooShort);
     for room in [rng.below(length), rng.between(length, IMAGE_MAX), 0] {
-        comparison.call(call, image, room)?;
+        comparison.call(call, input, room)?;
     }
     Ok(())
 }

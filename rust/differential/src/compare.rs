@@ -1,8 +1,8 @@
-//! One call made of two implementations: what they tell, every byte of the output and around it, and the image.
+//! One call made of two implementations: what they tell, every byte of the output and around it, and what they read.
 
 use crate::calls::{Answer, Call, Implementation};
 use crate::posts::{self, PostOutcome};
-use crate::report::{hex, Mismatch, RecordOutcome, Tally};
+use crate::report::{hex, Mismatch, Outcome, RecordOutcome, Tally};
 use crate::rng::Rng;
 use rithennaw::IMAGE_MAX;
 use std::fmt;
@@ -41,21 +41,21 @@ impl Comparison {
         Comparison { implementations, seed: 0, pattern, tally: Tally::default() }
     }
 
-    /// Begins with the images and arguments of a seed.
+    /// Begins with what belongs to a seed.
     pub fn begin(&mut self, seed: u64) {
         self.seed = seed;
         Rng::new(seed).fill(&mut self.pattern);
     }
 
     /// Makes a call of both with an output of `room` bytes, at most `ROOM_MAX`.
-    pub fn call(&mut self, call: Call, image: &[u8], room: usize) -> Result<Agreed, Mismatch> {
+    pub fn call(&mut self, call: Call, input: &[u8], room: usize) -> Result<Agreed, Mismatch> {
         let before = &self.pattern[..AROUND + room + AROUND];
-        let lent = image.to_vec();
+        let lent = input.to_vec();
         let [first, second] = self.implementations.map(|implementation| make(implementation, call, &lent, before));
         self.tally.compared += 1;
-        let posted = post_outcome(call, image, first.answer);
-        let fault = if lent != image {
-            Some("the image has changed")
+        let posted = post_outcome(call, input, first.answer);
+        let fault = if lent != input {
+            Some("the input has changed")
         } else if first.answer != second.answer {
             Some("different answers")
         } else if first.output != second.output {
@@ -65,7 +65,7 @@ impl Comparison {
         };
         if let Some(fault) = fault {
             let made = [first, second].map(|made| format!("{:?} {}", made.answer, hex(&made.output[AROUND..])));
-            return Err(self.mismatch(fault, &format!("{call:?}, output of {room} bytes"), image, made));
+            return Err(self.mismatch(fault, &format!("{call:?}, output of {room} bytes"), input, made));
         }
         self.tally.call(call, first.answer);
         posted.into_iter().for_each(|outcome| self.tally.post(outcome));
@@ -74,7 +74,7 @@ impl Comparison {
     }
 
     /// Has both check an accepted image and write it again, which gives 0 and its own bytes.
-    pub fn accepted(&mut self, image: &[u8]) -> Result<(), Mismatch> {
+    pub fn accepted(&mut self, image: &[u8]) -> Outcome {
         let number = self.check(image)?;
         if number != 0 {
             return Err(self.mismatch(
@@ -84,12 +84,17 @@ impl Comparison {
                 [number; 2].map(|n| n.to_string()),
             ));
         }
-        let agreed = self.call(Call::Rewrite, image, IMAGE_MAX)?;
-        if agreed.answer.number == 0 && agreed.bytes == image {
+        self.give(Call::Rewrite, image, image, "an accepted image is not given back")
+    }
+
+    /// Has both make a call that is accepted and gives these bytes; anything else is that fault.
+    pub fn give(&mut self, call: Call, input: &[u8], bytes: &[u8], fault: &str) -> Outcome {
+        let agreed = self.call(call, input, ROOM_MAX)?;
+        if agreed.answer.number == 0 && agreed.bytes == bytes {
             return Ok(());
         }
         let gave = format!("{:?} {}", agreed.answer, hex(&agreed.bytes));
-        Err(self.mismatch("an accepted image is not given back", "Rewrite", image, [gave.clone(), gave]))
+        Err(self.mismatch(fault, &format!("{call:?}"), input, [gave.clone(), gave]))
     }
 
     /// Asks both for the image's number.
@@ -100,7 +105,7 @@ impl Comparison {
     }
 
     /// Asks both where the record of a slot stands.
-    pub fn record(&mut self, image: &[u8], slot: u32) -> Result<(), Mismatch> {
+    pub fn record(&mut self, image: &[u8], slot: u32) -> Outcome {
         let call = format!("Record({slot})");
         let part = self.ask(&call, image, |implementation, image| (implementation.record)(image, slot))?;
         let refused = reference::check(image) != 0;
@@ -127,27 +132,27 @@ impl Comparison {
         Err(self.mismatch("different answers, or the image has changed", call, image, told))
     }
 
-    fn mismatch(&self, fault: &str, call: &str, image: &[u8], given: [String; 2]) -> Mismatch {
+    fn mismatch(&self, fault: &str, call: &str, input: &[u8], given: [String; 2]) -> Mismatch {
         let [first, second] = self.implementations.map(|implementation| implementation.name);
         let [gives, other_gives] = given;
-        let (seed, image) = (self.seed, hex(image));
-        Mismatch(format!("{fault}\nseed {seed}\ncall {call}\nimage {image}\n{first}: {gives}\n{second}: {other_gives}"))
+        let (seed, input) = (self.seed, hex(input));
+        Mismatch(format!("{fault}\nseed {seed}\ncall {call}\ninput {input}\n{first}: {gives}\n{second}: {other_gives}"))
     }
 }
 
 /// Makes the call with an output amid a copy of `before`.
-fn make(implementation: Implementation, call: Call, image: &[u8], before: &[u8]) -> Made {
+fn make(implementation: Implementation, call: Call, input: &[u8], before: &[u8]) -> Made {
     let mut output = before.to_vec();
     let end = output.len() - AROUND;
-    let answer = (implementation.call)(call, image, &mut output[AROUND..end]);
+    let answer = (implementation.call)(call, input, &mut output[AROUND..end]);
     Made { answer, output }
 }
 
 /// What should become of a post that is accepted; none for other calls.
-fn post_outcome(call: Call, image: &[u8], answer: Answer) -> Option<PostOutcome> {
+fn post_outcome(call: Call, input: &[u8], answer: Answer) -> Option<PostOutcome> {
     match call {
         Call::Post(post) if answer.number == 0 => {
-            Some(posts::outcome(&image[reference::record(image, post.slot)], post.label))
+            Some(posts::outcome(&input[reference::record(input, post.slot)], post.label))
         }
         _ => None,
     }

@@ -8,21 +8,21 @@ use layout::instructions::TABLE;
 use layout::{Image, Message, Task, MESSAGE_LENGTH, SLOTS, TASK_LENGTH};
 use rithennaw::HOST;
 
-/// A way to damage an image.
-pub struct Fault {
+/// A way to damage what a call reads: an image, or a text.
+pub struct Fault<T> {
     pub name: &'static str,
-    /// The number by which an image with this fault alone is refused.
+    /// The number by which an input with this fault alone is refused.
     pub number: u8,
-    /// Damages the image. Gives false and does nothing where the image has nothing that can be damaged so.
-    pub apply: fn(&mut Rng, &mut Image) -> bool,
+    /// Damages the input. Gives false and does nothing where it has nothing that can be damaged so.
+    pub apply: fn(&mut Rng, &mut T) -> bool,
 }
 
-const fn fault(number: u8, name: &'static str, apply: fn(&mut Rng, &mut Image) -> bool) -> Fault {
+pub const fn fault<T>(number: u8, name: &'static str, apply: fn(&mut Rng, &mut T) -> bool) -> Fault<T> {
     Fault { name, number, apply }
 }
 
-/// Every fault.
-pub const FAULTS: [Fault; 28] = [
+/// Every fault of an image.
+pub const FAULTS: [Fault<Image>; 28] = [
     fault(3, "cut", cut),
     fault(3, "cut by one byte", cut_by_one),
     fault(4, "version", version),

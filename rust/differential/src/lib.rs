@@ -1,4 +1,5 @@
-//! Compares the monitor with the reference interpreter on made-up images, and tries the secrecy rule on both.
+//! Compares the monitor with the reference interpreter on made-up images, texts and programs, and tries the secrecy
+//! rule on both.
 
 #![forbid(unsafe_code)]
 
@@ -9,7 +10,9 @@ pub mod compare;
 pub mod damage;
 pub mod images;
 pub mod instructions;
+pub mod listings;
 pub mod lists;
+pub mod numbers;
 pub mod pairs;
 pub mod posts;
 pub mod programs;
@@ -20,3 +23,7 @@ pub mod secrecy;
 mod secrecy_facts;
 pub mod secrecy_report;
 pub mod slotsheet;
+pub mod text_cases;
+pub mod text_damage;
+mod text_sweeps;
+pub mod texts;

@@ -8,7 +8,7 @@ use differential::compare::Comparison;
 use differential::report::Mismatch;
 use differential::secrecy_report::SecrecyTally;
 use differential::slotsheet::SlotsheetTally;
-use differential::{cases, secrecy, slotsheet};
+use differential::{cases, secrecy, slotsheet, text_cases};
 use std::env;
 use std::ffi::OsString;
 use std::process::ExitCode;
@@ -62,6 +62,7 @@ fn run(options: &Options) -> bool {
     let mut secrecy_tally = SecrecyTally::default();
     for seed in (options.first..).take(options.seeds as usize) {
         mismatches.note(cases::run(&mut comparison, seed));
+        mismatches.note(text_cases::run(&mut comparison, seed));
         mismatches.note(secrecy::run(&mut secrecy_tally, &BOTH, seed));
     }
     let mut slotsheet_tally = SlotsheetTally::default();

@@ -5,7 +5,7 @@ use crate::posts::PostOutcome;
 use std::fmt;
 
 /// The least number of calls in a run.
-const CALLS_MIN: u64 = 200_000;
+const CALLS_MIN: u64 = 400_000;
 
 /// The least number of calls with each number that a call may tell, and of records and posts with each outcome.
 const EACH_MIN: u64 = 100;
@@ -13,25 +13,33 @@ const EACH_MIN: u64 = 100;
 /// A call with at least so many busy turns is a long run.
 const LONG_RUN: u64 = 100_000;
 
-/// The calls that tell a number, with those that each may tell beside 0 and 3 to 12.
-const CALLS: [(&str, &[usize]); 6] = [
-    ("rewrite", &[13]),
-    ("turns", &[2, 13]),
-    ("post", &[13, 14, 15]),
-    ("view", &[1, 13]),
-    ("sheet", &[1, 13]),
-    ("check", &[]),
+/// Whether a call may tell a number.
+type MayTell = fn(usize) -> bool;
+
+/// The calls that tell a number.
+const CALLS: [(&str, MayTell); 8] = [
+    ("rewrite", |number| matches!(number, 0 | 3..=13)),
+    ("turns", |number| matches!(number, 0 | 2..=13)),
+    ("post", |number| matches!(number, 0 | 3..=15)),
+    ("view", |number| matches!(number, 0 | 1 | 3..=13)),
+    ("sheet", |number| matches!(number, 0 | 1 | 3..=13)),
+    ("check", |number| matches!(number, 0 | 3..=12)),
+    ("assemble", |number| matches!(number, 0 | 5 | 6 | 13 | 16)),
+    ("disassemble", |number| matches!(number, 0 | 5 | 6 | 13)),
 ];
 
-/// The place of `check`, which is no call that writes; those of the others are in the order of `Call`.
+/// The place of `check`, which is no call that writes.
 const CHECK: usize = 5;
 
-/// The numbers that there are: 0 to 15.
-pub const NUMBERS: usize = 16;
+/// The numbers that there are: 0 to 16.
+pub const NUMBERS: usize = 17;
 
 /// A difference: all that is known of it.
 #[derive(Debug)]
 pub struct Mismatch(pub String);
+
+/// What comparing gives: the first difference, if there is one.
+pub type Outcome = Result<(), Mismatch>;
 
 impl fmt::Display for Mismatch {
     fn fmt(&self, f: &mut fmt::Formatter<'_>) -> fmt::Result {
@@ -51,10 +59,17 @@ pub enum Fact {
     JustEnough,
     ByteTooShort,
     SlotAndLabelAbove15,
+    NoLine,
+    Lines256,
+    Lines257,
+    LegalOnceCut,
+    LegalBehindZeros,
+    TextGivenBack,
+    ProgramGivenBack,
 }
 
 /// The words for each fact, and the least number of calls of which it holds.
-const FACTS: [(&str, u64); 9] = [
+const FACTS: [(&str, u64); 16] = [
     ("0 turns", 100),
     ("1 to 16 turns", 100),
     ("17 to 999 turns", 100),
@@ -64,6 +79,13 @@ const FACTS: [(&str, u64); 9] = [
     ("output just long enough", 100),
     ("output a byte too short", 100),
     ("post with slot and label above 15", 100),
+    ("text of no line", 100),
+    ("text of 256 lines accepted", 100),
+    ("text of 257 lines", 100),
+    ("number above 255 that is legal once cut to 8 to 128 bits", 1_000),
+    ("leading zeros ahead of a legal number", 1_000),
+    ("text turned into its program and back", 1_000),
+    ("program turned into its text and back", 1_000),
 ];
 
 /// What a record's part was, and why it was empty.
@@ -101,6 +123,8 @@ impl Tally {
             Call::Post(_) => 2,
             Call::View(_) => 3,
             Call::Sheet(_) => 4,
+            Call::Assemble => 6,
+            Call::Disassemble => 7,
         };
         self.calls[row][usize::from(answer.number)] += 1;
         match (call, answer.number) {
@@ -144,13 +168,11 @@ impl Tally {
         let total = (self.compared < CALLS_MIN).then(|| format!("fewer than {CALLS_MIN} calls"));
         let facts = FACTS.iter().zip(self.facts).filter(|&((_, least), count)| count < *least);
         let facts = facts.map(|((name, least), _)| format!("{name}: fewer than {least} calls"));
-        let cells = CALLS.iter().zip(&self.calls).flat_map(|(&(name, own), counts)| {
-            counts.iter().enumerate().filter_map(move |(number, &count)| {
-                match matches!(number, 0 | 3..=12) || own.contains(&number) {
-                    true if count < EACH_MIN => Some(format!("{name} told {number} in fewer than {EACH_MIN} calls")),
-                    false if count > 0 => Some(format!("{name} told {number}, which it never may")),
-                    _ => None,
-                }
+        let cells = CALLS.iter().zip(&self.calls).flat_map(|(&(name, may_tell), counts)| {
+            counts.iter().enumerate().filter_map(move |(number, &count)| match may_tell(number) {
+                true if count < EACH_MIN => Some(format!("{name} told {number} in fewer than {EACH_MIN} calls")),
+                false if count > 0 => Some(format!("{name} told {number}, which it never may")),
+                _ => None,
             })
         });
         let records = few("record", &RECORD_OUTCOMES, &self.records);
@@ -168,10 +190,13 @@ fn few<'a>(call: &'a str, outcomes: &'a [&str], counts: &'a [u64]) -> impl Itera
 impl fmt::Display for Tally {
     fn fmt(&self, f: &mut fmt::Formatter<'_>) -> fmt::Result {
         write!(f, "number")?;
-        CALLS.iter().try_for_each(|(name, _)| write!(f, "{name:>9}"))?;
+        // A count has up to seven digits, in the columns of short names.
+        let columns = CALLS.map(|(name, _)| (name, 2 + name.len().max(7)));
+        columns.iter().try_for_each(|(name, width)| write!(f, "{name:>width$}"))?;
         for number in 0..NUMBERS {
             write!(f, "\n{number:>6}")?;
-            self.calls.iter().try_for_each(|counts| write!(f, "{:>9}", counts[number]))?;
+            let counts = self.calls.iter().map(|counts| counts[number]);
+            columns.iter().zip(counts).try_for_each(|((_, width), count)| write!(f, "{count:>width$}"))?;
         }
         write!(f, "\nrecord: {}", list(&RECORD_OUTCOMES, &self.records))?;
         write!(f, "\npost: {}", list(&POST_OUTCOMES, &self.posts))?;

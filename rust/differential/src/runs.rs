@@ -69,7 +69,7 @@ impl End {
                 let met = record.get(1).copied();
                 self.posts.push(Posted { at: PostAt { turns: self.turns, post }, outcome, met });
             }
-            Call::Rewrite | Call::View(_) | Call::Sheet(_) => {}
+            Call::Rewrite | Call::View(_) | Call::Sheet(_) | Call::Assemble | Call::Disassemble => {}
         }
     }
 }

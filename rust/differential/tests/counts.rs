@@ -7,30 +7,33 @@ use differential::slotsheet::SlotsheetTally;
 
 #[test]
 fn a_run_without_calls_lacks_every_count() {
-    // All calls, and nine facts; 0 and 3 to 12 for each of six calls, 13 for the five that write, 2 for turns, 1 for
-    // view and sheet, 14 and 15 for post; four outcomes of record and four of post.
-    assert_eq!(Tally::default().shortfalls().len(), 1 + 9 + 6 * 11 + 5 + 1 + 2 + 2 + 4 + 4);
+    // All calls, and sixteen facts; 0 and 3 to 12 for each of six calls that read an image, 13 for the five of them
+    // that write, 2 for turns, 1 for view and sheet, 14 and 15 for post; 0, 5, 6 and 13 for assemble and disassemble,
+    // 16 for assemble; four outcomes of record and four of post.
+    assert_eq!(Tally::default().shortfalls().len(), 1 + 16 + 6 * 11 + 5 + 1 + 2 + 2 + 2 * 4 + 1 + 4 + 4);
     // The observers 0 to 15 and the fifteen facts.
     assert_eq!(SecrecyTally::default().shortfalls().len(), 16 + 15);
     // Sheets, and the refusals 1 and 3 to 12.
     assert_eq!(SlotsheetTally::default().shortfalls().len(), 1 + 11);
 }
 
-/// The numbers of 1, 2 and 13 to 15 that a call never may tell.
+/// The numbers that a call never may tell.
 fn not_told(call: Call) -> Vec<u8> {
     let is_reported = |number: &u8| {
         let mut tally = Tally::default();
         tally.call(call, Answer::refused(*number));
         tally.shortfalls().iter().any(|line| line.ends_with(&format!("told {number}, which it never may")))
     };
-    [1, 2, 13, 14, 15].into_iter().filter(is_reported).collect()
+    (0..=16).filter(is_reported).collect()
 }
 
 #[test]
 fn each_call_has_numbers_of_its_own() {
-    assert_eq!(not_told(Call::Rewrite), [1, 2, 14, 15]);
-    assert_eq!(not_told(Call::Turns(1)), [1, 14, 15]);
-    assert_eq!(not_told(Call::Post(Post { slot: 0, label: 0, value: 0 })), [1, 2]);
-    assert_eq!(not_told(Call::View(0)), [2, 14, 15]);
-    assert_eq!(not_told(Call::Sheet(0)), [2, 14, 15]);
+    assert_eq!(not_told(Call::Rewrite), [1, 2, 14, 15, 16]);
+    assert_eq!(not_told(Call::Turns(1)), [1, 14, 15, 16]);
+    assert_eq!(not_told(Call::Post(Post { slot: 0, label: 0, value: 0 })), [1, 2, 16]);
+    assert_eq!(not_told(Call::View(0)), [2, 14, 15, 16]);
+    assert_eq!(not_told(Call::Sheet(0)), [2, 14, 15, 16]);
+    assert_eq!(not_told(Call::Assemble), [1, 2, 3, 4, 7, 8, 9, 10, 11, 12, 14, 15]);
+    assert_eq!(not_told(Call::Disassemble), [1, 2, 3, 4, 7, 8, 9, 10, 11, 12, 14, 15, 16]);
 }

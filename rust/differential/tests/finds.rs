@@ -1,25 +1,38 @@
 //! Wrong implementations, each wrong in one thing, are found by comparing calls.
 
+mod texts;
 mod wrong;
 
 use differential::calls::{Answer, Call, Implementation, Post, MONITOR, REFERENCE};
 use differential::cases;
 use differential::compare::Comparison;
+use differential::report::Outcome;
 use layout::{MESSAGE_LENGTH, TASK_LENGTH};
 use rithennaw::IMAGE_MIN;
 use wrong::{common_limit, post_and_turn, right, wrong, SEEDS};
 
-/// The first difference, as it is reported.
-fn difference(implementations: [Implementation; 2]) -> Option<String> {
+/// What is compared for a seed.
+type Cases = fn(&mut Comparison, u64) -> Outcome;
+
+/// The first difference in these cases, as it is reported.
+fn difference_in(cases: Cases, implementations: [Implementation; 2]) -> Option<String> {
     let mut comparison = Comparison::new(implementations);
-    (0..SEEDS).find_map(|seed| cases::run(&mut comparison, seed).err()).map(|mismatch| mismatch.to_string())
+    (0..SEEDS).find_map(|seed| cases(&mut comparison, seed).err()).map(|mismatch| mismatch.to_string())
+}
+
+fn found_in(cases: Cases, wrong: Implementation) {
+    let report = difference_in(cases, [MONITOR, wrong]).expect("a difference");
+    for part in ["seed ", "\ncall ", "\ninput ", "\nmonitor: ", "\nwrong: "] {
+        assert!(report.contains(part), "no {part:?} in {report}");
+    }
+}
+
+fn difference(implementations: [Implementation; 2]) -> Option<String> {
+    difference_in(cases::run, implementations)
 }
 
 fn found(wrong: Implementation) {
-    let report = difference([MONITOR, wrong]).expect("a difference");
-    for part in ["seed ", "\ncall ", "\nimage ", "\nmonitor: ", "\nwrong: "] {
-        assert!(report.contains(part), "no {part:?} in {report}");
-    }
+    found_in(cases::run, wrong);
 }
 
 #[test]

@@ -1,14 +1,16 @@
 //! The made-up images are what they are made for: accepted ones, ones with a fault that leads to its number, and
-//! tasks that do what tasks may do. So are the lists of calls for the secrecy rule.
+//! tasks that do what tasks may do. So are the texts, and the lists of calls for the secrecy rule.
 
 use differential::calls::{Call, BOTH};
 use differential::damage::FAULTS;
 use differential::images;
 use differential::lists::{self, Plan, Step};
 use differential::rng::Rng;
+use differential::text_damage::TEXT_FAULTS;
+use differential::texts::Text;
 use layout::instructions::TABLE;
 use layout::{Image, SLOTS};
-use rithennaw::{record, turns, IMAGE_MAX, IMAGE_MIN};
+use rithennaw::{record, turns, IMAGE_MAX, IMAGE_MIN, PROGRAM_MAX};
 use std::collections::BTreeSet;
 
 /// The number that both tell of an image.
@@ -43,6 +45,27 @@ fn each_fault_alone_leads_to_its_number() {
             if (fault.apply)(&mut rng, &mut image) {
                 applied += 1;
                 assert_eq!(numbers(&image.bytes()), [fault.number; 2], "{}: {image:?}", fault.name);
+            }
+        }
+        assert!(applied >= 50, "{} was applied {applied} times", fault.name);
+    }
+}
+
+/// The number that both tell of a text.
+fn text_numbers(text: &Text) -> [u8; 2] {
+    BOTH.map(|implementation| (implementation.call)(Call::Assemble, &text.bytes(), &mut [0; PROGRAM_MAX]).number)
+}
+
+#[test]
+fn each_fault_of_a_text_alone_leads_to_its_number() {
+    for fault in &TEXT_FAULTS {
+        let mut applied = 0;
+        for (mut rng, image) in made_up(300) {
+            let mut text = Text::of(&image.program);
+            assert_eq!(text_numbers(&text), [0, 0], "{text:?}");
+            if (fault.apply)(&mut rng, &mut text) {
+                applied += 1;
+                assert_eq!(text_numbers(&text), [fault.number; 2], "{}: {text:?}", fault.name);
             }
         }
         assert!(applied >= 50, "{} was applied {applied} times", fault.name);

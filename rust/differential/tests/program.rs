@@ -12,12 +12,10 @@ fn differential(arguments: &[&str]) -> Output {
 fn calls(printed: &str) -> u64 {
     let mut lines = printed.lines();
     let heading = lines.next().unwrap_or_default();
-    assert!(
-        heading.split_whitespace().eq(["number", "rewrite", "turns", "post", "view", "sheet", "check"]),
-        "{heading}"
-    );
+    let names = "number rewrite turns post view sheet check assemble disassemble";
+    assert!(heading.split_whitespace().eq(names.split(' ')), "{heading}");
     let mut counts = Vec::new();
-    for number in 0..=15 {
+    for number in 0..=16 {
         let mut line = lines.next().unwrap_or_default().split_whitespace();
         assert_eq!(line.next(), Some(number.to_string().as_str()));
         counts.extend(line);
@@ -38,7 +36,7 @@ fn the_last_line_counts_calls_and_mismatches() {
     assert!(calls > 1_000, "{printed}");
     assert_eq!(printed.lines().last(), Some(format!("{calls} calls compared, {mismatches} mismatches").as_str()));
     assert!(said.starts_with("differential: slotsheet, input "), "{said}");
-    assert!(said.contains("\ndifferential: fewer than 200000 calls\n"), "{said}");
+    assert!(said.contains("\ndifferential: fewer than 400000 calls\n"), "{said}");
     assert!(!output.status.success());
 }
 

@@ -1,27 +1,27 @@
 //! The image that the sections of a text describe.
 
 use crate::line::{Fault, Line};
-use crate::program::{instructions, Names};
+use crate::program::{program, Names};
 use crate::section::{sections, Section};
 use crate::task::task;
-use layout::{Image, Instruction, Task, SLOTS};
+use layout::{Image, Task, SLOTS};
 
 /// The parts that the text has given so far.
 #[derive(Default)]
 struct Parts<'a> {
     names: Names<'a>,
-    program: Option<Vec<Instruction>>,
+    program: Option<Vec<u8>>,
     turn_slot: Option<u8>,
     slots: [Option<Task>; SLOTS],
 }
 
-/// The image that a text describes, or a fault in the text's form.
+/// The image that a text describes, or a fault in the text's form or in its program.
 pub fn image(text: &str) -> Result<Vec<u8>, Fault> {
     let mut parts = Parts::default();
     for section in sections(text)? {
         parts.read(&section)?;
     }
-    Ok(parts.bytes())
+    parts.bytes()
 }
 
 impl<'a> Parts<'a> {
@@ -30,9 +30,7 @@ impl<'a> Parts<'a> {
         let given_before = match head.words[..] {
             ["program"] => {
                 self.names = Names::read(body)?;
-                let program = instructions(body, &self.names)?;
-                check_length(head, program.as_flattened().len())?;
-                self.program.replace(program).is_some()
+                self.program.replace(program(head, body, &self.names)?).is_some()
             }
             ["turn", slot] => {
                 if let Some(line) = body.first() {
@@ -54,15 +52,17 @@ impl<'a> Parts<'a> {
         Ok(())
     }
 
-    fn bytes(self) -> Vec<u8> {
-        let mut image = Image::new(self.program.unwrap_or_default());
+    fn bytes(self) -> Result<Vec<u8>, Fault> {
+        let program = self.program.ok_or_else(|| Fault { line: 1, message: "the text has no `program`".into() })?;
+        let instructions = program.chunks_exact(4).map(|bytes| [bytes[0], bytes[1], bytes[2], bytes[3]]);
+        let mut image = Image::new(instructions.collect());
         image.turn_slot = self.turn_slot.unwrap_or(0);
         image.slots = self.slots;
-        image.bytes()
+        Ok(image.bytes())
     }
 }
 
-/// A fault where a part is too long for the 2-byte length ahead of it.
+/// A fault where a record is too long for the 2-byte length ahead of it.
 fn check_length(head: &Line, length: usize) -> Result<(), Fault> {
     if length > usize::from(u16::MAX) {
         return Err(head.fault(format!("{length} bytes are too many for a 2-byte length")));

@@ -1,6 +1,7 @@
 //! Turns a text that describes tasks into the bytes of an image. docs/TASKS.md says how the text is written.
 //!
-//! Only the form of the text is checked. Whether the monitor accepts the image is the monitor's answer.
+//! The library assembles the program and judges it; of the rest only the form is checked. Whether the monitor accepts the
+//! image is the monitor's answer.
 
 #![forbid(unsafe_code)]
 

@@ -40,12 +40,18 @@ impl Line<'_> {
         Fault { line: self.number, message: message.into() }
     }
 
-    /// A decimal number without leading zeros that fits into its field.
-    pub fn number<T: FromStr>(&self, word: &str) -> Result<T, Fault> {
+    /// A decimal number without leading zeros, of any size.
+    pub fn decimal<'w>(&self, word: &'w str) -> Result<&'w str, Fault> {
         if !is_decimal(word) {
             return Err(self.fault(format!("`{word}` is not a decimal number without leading zeros")));
         }
-        word.parse().map_err(|_| self.too_large::<T>(word))
+        Ok(word)
+    }
+
+    /// A decimal number without leading zeros that fits into its field.
+    pub fn number<T: FromStr>(&self, word: &str) -> Result<T, Fault> {
+        let too_large = || self.fault(format!("`{word}` is too large for a field of {} bits", 8 * size_of::<T>()));
+        self.decimal(word)?.parse().map_err(|_| too_large())
     }
 
     /// The number of one of `count` things.
@@ -56,10 +62,6 @@ impl Line<'_> {
         } else {
             Err(self.fault(format!("there is no {what} {word}: the last is {}", count - 1)))
         }
-    }
-
-    pub fn too_large<T>(&self, word: &str) -> Fault {
-        self.fault(format!("`{word}` is too large for a field of {} bits", 8 * size_of::<T>()))
     }
 }
 

@@ -1,8 +1,9 @@
-//! The program: instructions, and the names of places in it.
+//! The program: instructions, and the names of places in it. Each instruction is typed out for the library, which makes the
+//! bytes or refuses; here the line that it refuses is found.
 
 use crate::line::{Fault, Line};
-use layout::instructions::TABLE;
-use layout::Instruction;
+use layout::instructions::{Operand, Row, TABLE};
+use rithennaw::Refusal;
 use std::collections::HashMap;
 
 /// Names of places in the program: `NAME:` names the place of the instruction that follows.
@@ -29,31 +30,87 @@ impl<'a> Names<'a> {
         Ok(Names(names))
     }
 
-    /// A number, or the place that a name stands for.
-    pub fn value<T: std::str::FromStr + TryFrom<usize>>(&self, line: &Line, word: &str) -> Result<T, Fault> {
+    /// A decimal number, or the place that a name stands for, in decimal.
+    pub fn decimal(&self, line: &Line, word: &str) -> Result<String, Fault> {
         if !is_name(word) {
-            return line.number(word);
+            return line.decimal(word).map(str::to_string);
         }
         let place = self.0.get(word).ok_or_else(|| line.fault(format!("no place has the name `{word}`")))?;
-        T::try_from(*place).map_err(|_| line.too_large::<T>(word))
+        Ok(place.to_string())
     }
 }
 
-/// The instructions on the lines that name no place.
-pub fn instructions(body: &[Line], names: &Names) -> Result<Vec<Instruction>, Fault> {
-    body.iter().filter(|line| named(line).is_none()).map(|line| instruction(line, names)).collect()
+/// An instruction: its row of the table, and its operands in decimal.
+struct Typed<'a> {
+    line: &'a Line<'a>,
+    row: &'static Row,
+    operands: [String; 3],
 }
 
-fn instruction(line: &Line, names: &Names) -> Result<Instruction, Fault> {
-    let word = line.words[0];
-    let row = TABLE
-        .iter()
-        .find(|row| row.word == word)
-        .ok_or_else(|| line.fault(format!("`{word}` is not an instruction")))?;
-    let [_, a, b, c] = line.words[..] else {
-        return Err(line.fault(format!("`{word}` takes three operands, not {}", line.words.len() - 1)));
+/// The bytes of the program that stands below its head.
+pub fn program(head: &Line, body: &[Line], names: &Names) -> Result<Vec<u8>, Fault> {
+    let lines = body.iter().filter(|line| named(line).is_none());
+    let typed: Vec<Typed> = lines.map(|line| Typed::read(line, names)).collect::<Result<_, _>>()?;
+    let text: String = typed.iter().map(Typed::text).collect();
+    rithennaw::assemble(text).map_err(|refusal| {
+        let fault = match refusal {
+            Refusal::ProgramLength => {
+                Some(head.fault(format!("a program has 1 to 256 instructions, not {}", typed.len())))
+            }
+            Refusal::Instruction => typed.iter().find_map(|instruction| instruction.fault(typed.len())),
+            _ => None,
+        };
+        fault.unwrap_or_else(|| head.fault(refusal.to_string()))
+    })
+}
+
+impl<'a> Typed<'a> {
+    fn read(line: &'a Line<'a>, names: &Names) -> Result<Typed<'a>, Fault> {
+        let word = line.words[0];
+        let row = TABLE
+            .iter()
+            .find(|row| row.word == word)
+            .ok_or_else(|| line.fault(format!("`{word}` is not an instruction")))?;
+        let [_, a, b, c] = line.words[..] else {
+            return Err(line.fault(format!("`{word}` takes three operands, not {}", line.words.len() - 1)));
+        };
+        let operands = [names.decimal(line, a)?, names.decimal(line, b)?, names.decimal(line, c)?];
+        Ok(Typed { line, row, operands })
+    }
+
+    /// The line as the library takes it.
+    fn text(&self) -> String {
+        let [a, b, c] = &self.operands;
+        format!("{} {a} {b} {c}\n", self.row.word)
+    }
+
+    /// The first operand outside the table, in a program of `n` instructions.
+    fn fault(&self, n: usize) -> Option<Fault> {
+        let mut operands = ["first", "second", "third"].into_iter().zip(self.row.operands).zip(&self.operands);
+        let ((nth, operand), number) = operands.find(|((_, operand), number)| !admits(*operand, n, number))?;
+        let (word, admitted) = (self.row.word, admitted(operand, n));
+        Some(self.line.fault(format!("`{word}` takes {admitted} as its {nth} operand, not {number}")))
+    }
+}
+
+/// Whether a number, of any size, may be the operand in a program of `n` instructions.
+fn admits(operand: Operand, n: usize, number: &str) -> bool {
+    let (first, last) = operand.range(n);
+    number.parse().is_ok_and(|number: u8| (first..=last).contains(&number))
+}
+
+/// What the operand may be, in words.
+fn admitted(operand: Operand, n: usize) -> String {
+    let (first, last) = operand.range(n);
+    let what = match operand {
+        Operand::Nothing => return "0".into(),
+        Operand::Any => "a byte",
+        Operand::Register => "a register",
+        Operand::Target => "a place",
+        Operand::Label => "a label",
+        Operand::Size => "a size",
     };
-    Ok([row.code, names.value(line, a)?, names.value(line, b)?, names.value(line, c)?])
+    format!("{what}, {first} to {last},")
 }
 
 /// The name that a line `NAME:` gives.

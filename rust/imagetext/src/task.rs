@@ -29,7 +29,7 @@ fn read_field(task: &mut Task, line: &Line, words: &[&str], names: &Names) -> Re
         ["kind", kind, ..] => task.kind = line.number(kind)?,
         ["label", label, ..] => task.label = line.number(label)?,
         ["spare", spare, ..] => task.spare = line.number(spare)?,
-        ["place", place, ..] => task.place = names.value(line, place)?,
+        ["place", place, ..] => task.place = line.number(&names.decimal(line, place)?)?,
         ["register", register, value, ..] => {
             let index = line.index("register", register, task.registers.len())?;
             task.registers[index] = line.number(value)?;

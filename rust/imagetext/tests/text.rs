@@ -1,4 +1,5 @@
-//! Texts and the bytes that they give; faults in a text's form and the lines where they are met; the program.
+//! Texts and the bytes that they give; faults in a text's form and in its program, and the lines where they are met; the
+//! program `imagetext`.
 
 use std::process::{Command, Output};
 
@@ -41,25 +42,36 @@ fn image_b() {
     assert_eq!(image(B), Ok(b()));
 }
 
-/// An instruction's word gives its code and the operands behind it.
-fn expect_code(word: &str, code: u8) {
-    let bytes = image(&format!("program\n{word} 1 20 255\n")).unwrap();
-    assert_eq!(bytes[..7], [1, 0, 4, code, 1, 20, 255], "{word}");
+/// A program of one instruction gives its code and the operands behind it.
+fn expect_bytes(instruction: &str, should: [u8; 4]) {
+    let bytes = image(&format!("program\n{instruction}\n")).unwrap();
+    assert_eq!(bytes[..7], [&[1, 0, 4], &should[..]].concat(), "{instruction}");
 }
 
 #[test]
-fn every_word_of_the_table_gives_the_code_beside_it() {
-    for Row { word, code, .. } in TABLE {
-        expect_code(word, *code);
+fn every_row_of_the_table_gives_its_code_and_operands() {
+    for Row { word, code, operands } in TABLE {
+        for [a, b, c] in [operands.map(|operand| operand.range(1).0), operands.map(|operand| operand.range(1).1)] {
+            expect_bytes(&format!("{word} {a} {b} {c}"), [*code, a, b, c]);
+        }
     }
 }
 
 /// A few of 01's rows, written out; layout compares its whole table with them.
 #[test]
 fn words_of_01_give_its_codes() {
-    for (word, code) in [("end", 0x00), ("subtract", 0x04), ("sandbox", 0x0b), ("self", 0x0c)] {
-        expect_code(word, code);
-    }
+    expect_bytes("end 0 0 0", [0x00, 0, 0, 0]);
+    expect_bytes("set 1 20 255", [0x01, 1, 20, 255]);
+    expect_bytes("subtract 1 2 3", [0x04, 1, 2, 3]);
+    expect_bytes("sandbox 1 0 15", [0x0b, 1, 0, 15]);
+    expect_bytes("self 1 2 0", [0x0c, 1, 2, 0]);
+}
+
+#[test]
+fn the_longest_program_has_256_instructions() {
+    let bytes = image(&format!("program\n{}last:\ngo last 0 0\n", "end 0 0 0\n".repeat(255))).unwrap();
+    assert_eq!(bytes[..3], [1, 4, 0]);
+    assert_eq!(bytes[3 + 4 * 255..3 + 4 * 256], [5, 255, 0, 0]);
 }
 
 #[test]
@@ -74,16 +86,21 @@ fn every_field_has_its_place() {
     assert_eq!(image(text), Ok(should));
 }
 
+/// The shortest program, and this below it.
+fn with_program(rest: &str) -> String {
+    format!("program\nend 0 0 0\n{rest}")
+}
+
 #[test]
 fn fields_share_lines() {
-    let apart = "slot 4\nlabel 3\nregister 2 9\nmessage 0 1 2\nmessage 0 1 2\n";
-    assert_eq!(image("slot 4 label 3 register 2 9\nmessage 0 1 2 message 0 1 2\n"), image(apart));
-    assert!(image(apart).is_ok());
+    let apart = with_program("slot 4\nlabel 3\nregister 2 9\nmessage 0 1 2\nmessage 0 1 2\n");
+    assert_eq!(image(&with_program("slot 4 label 3 register 2 9\nmessage 0 1 2 message 0 1 2\n")), image(&apart));
+    assert!(image(&apart).is_ok());
 }
 
 #[test]
 fn the_host_is_sender_16() {
-    let bytes = image("slot 15 message 3 host 5 message 3 16 5").unwrap();
+    let bytes = image(&with_program("slot 15 message 3 host 5 message 3 16 5")).unwrap();
     assert_eq!(bytes[bytes.len() - 12..], [3, 16, 0, 0, 0, 5, 3, 16, 0, 0, 0, 5]);
 }
 
@@ -97,16 +114,16 @@ fn names_are_places() {
 
 #[test]
 fn what_is_not_given_is_0() {
-    let nothing = [&[1, 0, 0, 0], &[0; 16 * 2][..]].concat();
-    assert_eq!(image(""), Ok(nothing.clone()));
-    assert_eq!(image("# a comment\n\n   \t# another\nprogram # and one behind a word\r\n"), Ok(nothing));
+    let nothing = [&[1, 0, 4], &[0; 4][..], &[0], &[0; 16 * 2]].concat();
+    assert_eq!(image(&with_program("")), Ok(nothing.clone()));
+    assert_eq!(image("# a comment\n\n   \t# another\nprogram # and one behind a word\r\nend\t0  0 0\r\n"), Ok(nothing));
 }
 
-/// These break 01's image rules, which the monitor judges.
+/// These break 01's rules for tasks and the turn slot, which the monitor judges.
 #[test]
-fn image_rules_are_left_to_the_monitor() {
-    for text in ["program\nraise 16 0 0\n", "turn 16\n", "slot 3\nspare 13\n", "slot 0\nkind 9\nmessage 255 17 0\n"] {
-        assert!(image(text).is_ok(), "{text}");
+fn rules_for_tasks_are_left_to_the_monitor() {
+    for rest in ["turn 16\n", "slot 3\nspare 13\n", "slot 0\nkind 9\nmessage 255 17 0\n", "slot 0\nplace 2\n"] {
+        assert!(image(&with_program(rest)).is_ok(), "{rest}");
     }
 }
 
@@ -125,7 +142,7 @@ fn faults_of_sections() {
         ("program 4\n", "1: expected `program`, `turn SLOT` or `slot SLOT`"),
         ("turn\n", "1: expected `program`, `turn SLOT` or `slot SLOT`"),
         ("slot\n", "1: expected `program`, `turn SLOT` or `slot SLOT`"),
-        ("program\nprogram\n", "2: this part of the image is given twice"),
+        ("program\nend 0 0 0\nprogram\nend 0 0 0\n", "3: this part of the image is given twice"),
         ("turn 0\nturn 1\n", "2: this part of the image is given twice"),
         ("slot 4\nslot 5\nslot 4\n", "3: this part of the image is given twice"),
         ("turn 256\n", "1: `256` is too large for a field of 8 bits"),
@@ -136,24 +153,54 @@ fn faults_of_sections() {
 
 #[test]
 fn faults_of_programs() {
-    let too_many = format!("program\n{}", "end 0 0 0\n".repeat(65_536 / 4));
-    let far = format!("program\n{}far:\ngo far 0 0\n", "end 0 0 0\n".repeat(256));
     expect_faults(&[
         ("program\nadd 1 2 3\nhalt 0 0 0\n", "3: `halt` is not an instruction"),
         ("program\nEnd 0 0 0\n", "2: `End` is not an instruction"),
         ("program\nend\n", "2: `end` takes three operands, not 0"),
         ("program\nend 0 0 0 0\n", "2: `end` takes three operands, not 4"),
-        ("program\nset 1 0 256\n", "2: `256` is too large for a field of 8 bits"),
         ("program\nset 1 00 1\n", "2: `00` is not a decimal number without leading zeros"),
         ("program\nset 1 -1 0\n", "2: `-1` is not a decimal number without leading zeros"),
         ("program\nset 1 +1 0\n", "2: `+1` is not a decimal number without leading zeros"),
         ("program\nset 1 0x1 0\n", "2: `0x1` is not a decimal number without leading zeros"),
         ("program\ngo there 0 0\n", "2: no place has the name `there`"),
-        (&far, "259: `far` is too large for a field of 8 bits"),
         ("program\na:\nend 0 0 0\na:\n", "4: the name `a` is given twice"),
         ("program\n1st:\n", "2: `1st` is not a name: a letter, then letters, digits, - and _"),
         ("program\n:\n", "2: `` is not a name: a letter, then letters, digits, - and _"),
-        (&too_many, "1: 65536 bytes are too many for a 2-byte length"),
+    ]);
+}
+
+/// A program without instructions or with more than 256, told with the line of `program`; also where an operand is wrong.
+#[test]
+fn faults_of_lengths() {
+    let many =
+        |count: usize| format!("turn 0\nprogram\nset 8 0 0\n{}far:\ngo far 0 0\n", "end 0 0 0\n".repeat(count - 2));
+    expect_faults(&[
+        ("", "1: the text has no `program`"),
+        ("# none\nturn 3\nslot 0\n", "1: the text has no `program`"),
+        ("# none\nprogram\nslot 0\n", "2: a program has 1 to 256 instructions, not 0"),
+        ("program\nhere:\n", "1: a program has 1 to 256 instructions, not 0"),
+        (&many(257), "2: a program has 1 to 256 instructions, not 257"),
+        (&many(70_000), "2: a program has 1 to 256 instructions, not 70000"),
+        (&many(256), "3: `set` takes a register, 0 to 7, as its first operand, not 8"),
+    ]);
+}
+
+/// The first operand outside the table, once the form of all lines is right.
+#[test]
+fn faults_of_operands() {
+    expect_faults(&[
+        ("program\nend 0 0 1\n", "2: `end` takes 0 as its third operand, not 1"),
+        ("program\nset 1 0 256\n", "2: `set` takes a byte, 0 to 255, as its third operand, not 256"),
+        (
+            "program\nset 1 18446744073709551616 256\n",
+            "2: `set` takes a byte, 0 to 255, as its second operand, not 18446744073709551616",
+        ),
+        ("program\nend 0 0 0\n\nadd 1 2 8\n", "4: `add` takes a register, 0 to 7, as its third operand, not 8"),
+        ("program\nraise 16 0 0\n", "2: `raise` takes a label, 0 to 15, as its first operand, not 16"),
+        ("program\nsandbox 0 0 0\n", "2: `sandbox` takes a size, 1 to 15, as its third operand, not 0"),
+        ("program\nend 0 0 0\ngo 2 0 0\n", "3: `go` takes a place, 0 to 1, as its first operand, not 2"),
+        ("program\nzero 0 behind 0\nbehind:\n", "2: `zero` takes a place, 0 to 0, as its second operand, not 1"),
+        ("program\nset 8 0 0\nset 9 0 0\nhalt 0 0 0\n", "4: `halt` is not an instruction"),
     ]);
 }
 

@@ -2,14 +2,15 @@
 
 use imagetext::Fault;
 use layout::{REGISTERS_AT, TASK_LENGTH};
-use rithennaw::{post, record, sheet, turns, view, Refusal};
+use rithennaw::{disassemble, post, record, sheet, turns, view, Refusal};
 
-use crate::example::{examples, Example, Instruction, Post, Register, Sheet, Step, What};
+use crate::example::{examples, Example, Instruction, Listing, Post, Register, Sheet, Step, What};
 
 /// How much of a page was compared.
 #[derive(Debug, Default, PartialEq, Eq)]
 pub struct Compared {
     pub images: usize,
+    pub listings: usize,
     pub posts: usize,
     pub sheets: usize,
     pub registers: usize,
@@ -19,8 +20,12 @@ pub struct Compared {
 /// Compares a whole page, or tells the first line that has not its form or says something else than the monitor.
 pub fn compare(page: &str) -> Result<Compared, Fault> {
     let mut compared = Compared::default();
-    for Example { image, steps } in examples(page)? {
+    for Example { image, listing, steps } in examples(page)? {
         compared.images += 1;
+        if let Some(listing) = listing {
+            compare_listing(&image, &listing)?;
+            compared.listings += 1;
+        }
         let mut run = Run { image, turns: 0 };
         for step in &steps {
             run.compare(step)?;
@@ -87,6 +92,14 @@ fn refused(refusal: Refusal) -> String {
     format!("refused {}", refusal.number())
 }
 
+fn compare_listing(image: &[u8], should: &Listing) -> Result<(), Fault> {
+    let text = listing(image);
+    if text != should.text {
+        return Err(Fault { line: should.line, message: format!("the lister gives\n{text}") });
+    }
+    Ok(())
+}
+
 fn compare_post(delivered: Result<bool, Refusal>, should: &Post, line: usize) -> Result<(), Fault> {
     let told = delivered.map_or_else(refused, |delivered| if delivered { "delivered" } else { "dropped" }.into());
     if told != should.told {
@@ -114,21 +127,21 @@ fn compare_register(view: &[u8], should: &Register) -> Result<(), Fault> {
 }
 
 fn compare_instruction(view: &[u8], should: &Instruction) -> Result<(), Fault> {
-    let message = match instructions(view).nth(should.place) {
-        Some(bytes) if bytes == should.bytes => return Ok(()),
-        Some(bytes) => format!("the monitor gives the bytes {bytes:02X?}"),
+    let message = match listing(view).lines().nth(should.place) {
+        Some(text) if text == should.text => return Ok(()),
+        Some(text) => format!("the lister gives `{text}`"),
         None => "the observer is shown no such instruction".into(),
     };
     Err(Fault { line: should.line, message })
 }
 
-/// The instructions of an image, four bytes each; none where there is no image.
-fn instructions(image: &[u8]) -> impl Iterator<Item = &[u8]> {
-    let bytes = match image {
+/// The listing of an image's program; empty where there is no image.
+fn listing(image: &[u8]) -> String {
+    let program = match image {
         [_, high, low, rest @ ..] => rest.get(..usize::from(u16::from_be_bytes([*high, *low]))),
         _ => None,
     };
-    bytes.unwrap_or_default().chunks(4)
+    disassemble(program.unwrap_or_default()).unwrap_or_default()
 }
 
 /// The eight registers of a record; none where the slot is unused.

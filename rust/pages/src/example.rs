@@ -4,12 +4,22 @@ use imagetext::Fault;
 
 use crate::block::{blocks, Block};
 
+const LISTING: &str = "listing";
 const SHEET: &str = "after N turns, observer V";
 const POST: &str = "after N turns, post VALUE with label L to slot S: TOLD";
 
 pub struct Example {
     pub image: Vec<u8>,
+    pub listing: Option<Listing>,
     pub steps: Vec<Step>,
+}
+
+/// The program as the lister gives it.
+pub struct Listing {
+    /// The line of the page, from 1, on which it begins.
+    pub line: usize,
+    /// Its lines, each with its line feed.
+    pub text: String,
 }
 
 /// What the page says of an image after some turns in all.
@@ -52,7 +62,7 @@ pub struct Register {
 pub struct Instruction {
     pub line: usize,
     pub place: usize,
-    pub bytes: [u8; 4],
+    pub text: String,
 }
 
 /// The examples in order. A block that is none is a fault, so that a mistake in its first line does not leave it out.
@@ -67,15 +77,25 @@ fn example(block: &Block) -> Result<Example, Fault> {
             message: format!("the block's word is `{}`, not `example`", block.word),
         });
     }
-    let Some(image_lines) = block.lines.iter().position(|line| line.starts_with("after ")) else {
-        return Err(Fault { line: block.line, message: format!("this example has no line `{SHEET}`") });
-    };
-    let (image, steps) = block.lines.split_at(image_lines);
+    let first_step = block.lines.iter().position(|line| line.starts_with("after ")).unwrap_or(block.lines.len());
+    let (ahead, steps) = block.lines.split_at(first_step);
+    let image_lines = ahead.iter().position(|line| *line == LISTING).unwrap_or(first_step);
+    let (image, listing) = ahead.split_at(image_lines);
+    if steps.is_empty() && listing.is_empty() {
+        return Err(Fault { line: block.line, message: format!("this example has no line `{LISTING}` or `{SHEET}`") });
+    }
     Ok(Example {
         image: imagetext::image(&image.join("\n"))
             .map_err(|fault| Fault { line: block.line + fault.line, message: fault.message })?,
-        steps: read_steps(steps, block.line + 1 + image_lines)?,
+        listing: read_listing(listing, block.line + 1 + image_lines),
+        steps: read_steps(steps, block.line + 1 + first_step)?,
     })
+}
+
+/// The listing on some lines of an example, the first of which has this number in the page; none where there is no line.
+fn read_listing(lines: &[&str], line: usize) -> Option<Listing> {
+    let (_, lines) = lines.split_first()?;
+    Some(Listing { line, text: lines.iter().map(|line| format!("{line}\n")).collect() })
 }
 
 /// The steps on some lines of an example, the first of which has this number in the page.
@@ -128,10 +148,7 @@ fn register(line: usize, words: &str) -> Option<Register> {
     Some(Register { line, slot: slot.parse().ok()?, index: index.parse().ok()?, value: value.parse().ok()? })
 }
 
-/// The bytes are those of an image whose program is the instruction alone.
 fn instruction(line: usize, words: &str) -> Option<Instruction> {
     let (place, text) = words.strip_prefix("instruction ")?.split_once(" is ")?;
-    let image = imagetext::image(&format!("program\n{text}")).ok()?;
-    let [_, 0, 4, code, a, b, c, ..] = image[..] else { return None };
-    Some(Instruction { line, place: place.parse().ok()?, bytes: [code, a, b, c] })
+    Some(Instruction { line, place: place.parse().ok()?, text: text.into() })
 }

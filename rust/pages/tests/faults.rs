@@ -21,9 +21,33 @@ after 1 turn, observer 16
 refused 1
 ```
 ```example
-slot 0
+turn 16
+program
+    end 0 0 0
 after 1 turn, observer 0
-refused 5
+refused 7
+```
+";
+
+const LISTINGS: &str = "\
+```example
+program
+again:
+    set 1 0 7   # seven
+    go again 0 0
+listing
+set 1 0 7
+go 0 0 0
+```
+```example
+program
+    end 0 0 0
+slot 0
+listing
+end 0 0 0
+after 16 turns, observer 0
+slot kind label spare pc mail
+0 2 0 0 0 0
 ```
 ";
 
@@ -43,9 +67,11 @@ slot kind label spare pc mail
 
 #[test]
 fn everything_is_counted() {
-    assert_eq!(compare(PAGE), Ok(Compared { images: 2, posts: 0, sheets: 4, registers: 1, instructions: 1 }));
-    assert_eq!(compare(POSTS), Ok(Compared { images: 1, posts: 3, sheets: 1, registers: 0, instructions: 0 }));
-    assert_eq!(compare("# No example\n"), Ok(Compared::default()));
+    let none = Compared::default;
+    assert_eq!(compare(PAGE), Ok(Compared { images: 2, sheets: 4, registers: 1, instructions: 1, ..none() }));
+    assert_eq!(compare(LISTINGS), Ok(Compared { images: 2, listings: 2, sheets: 1, ..none() }));
+    assert_eq!(compare(POSTS), Ok(Compared { images: 1, posts: 3, sheets: 1, ..none() }));
+    assert_eq!(compare("# No example\n"), Ok(none()));
 }
 
 #[test]
@@ -76,7 +102,9 @@ fn what_the_monitor_does_not_give() {
     expect_fault("is 9", "is 8", "11: the monitor gives 9");
     expect_fault("register 7 of", "register 8 of", "11: the observer is shown no such register");
     expect_fault("of slot 0", "of slot 1", "11: the observer is shown no such register");
-    expect_fault("is raise 1", "is raise 2", "12: the monitor gives the bytes [07, 01, 00, 00]");
+    for wrong in ["raise 2 0 0", "rise 1 0 0", "raise 1 0", "raise 1  0 0"] {
+        expect_fault("is raise 1 0 0", &format!("is {wrong}"), "12: the lister gives `raise 1 0 0`");
+    }
     expect_fault("instruction 0", "instruction 1", "12: the observer is shown no such instruction");
     expect_fault("refused 1", "refused 1\ninstruction 0 is end 0 0 0", "17: the observer is shown no such instruction");
 }
@@ -86,8 +114,9 @@ fn what_has_not_the_form() {
     expect_fault("```example\nprogram", "```\nprogram", "3: the block's word is ``, not `example`");
     expect_fault("```example\nprogram", "```exmaple\nprogram", "3: the block's word is `exmaple`, not `example`");
     expect_fault("refused 1\n```", "refused 1", "3: this block is not closed");
-    expect_fault("refused 5\n```", "refused 5", "18: this block is not closed");
+    expect_fault("refused 7\n```", "refused 7", "18: this block is not closed");
     expect_fault("    raise 1", "    rise 1", "5: `rise` is not an instruction");
+    expect_fault("    raise 1", "    raise 16", "5: `raise` takes a label, 0 to 15, as its first operand, not 16");
     expect_fault("after 0 turns,", "after 0 turns", "8: `after 0 turns observer 0` is not `after N turns, observer V`");
     expect_fault(
         "turn, observer 16",
@@ -95,11 +124,25 @@ fn what_has_not_the_form() {
         "15: `after 1 turn, observer x` is not `after N turns, observer V`",
     );
     expect_fault("slot 0 is 9", "slot 0: 9", "11: `register 7 of slot 0: 9` is not `register R of slot S is VALUE`");
-    for wrong in ["0 is rise 1 0 0", "0 is here:", "0: raise 1 0 0", "x is raise 1 0 0"] {
+    for wrong in ["0: raise 1 0 0", "x is raise 1 0 0"] {
         let should = format!("12: `instruction {wrong}` is not `instruction P is WORD A B C`");
         expect_fault("0 is raise 1 0 0", wrong, &should);
     }
-    expect_fault("slot 0\nafter 1 turn, ", "slot 0\n# ", "18: this example has no line `after N turns, observer V`");
+    let no_step = "18: this example has no line `listing` or `after N turns, observer V`";
+    expect_fault("    end 0 0 0\nafter 1 turn, observer 0\nrefused 7\n", "    end 0 0 0\n", no_step);
+}
+
+#[test]
+fn listings_that_the_lister_gives_otherwise() {
+    let expect = |from: &str, to: &str, should: &str| expect_fault_in(LISTINGS, from, to, should);
+    let first = "6: the lister gives\nset 1 0 7\ngo 0 0 0\n";
+    expect("\nset 1 0 7\n", "\nset 1 0 8\n", first);
+    expect("\nset 1 0 7\n", "\nset 1 0 7 # seven\n", first);
+    expect("\ngo 0 0 0\n", "\n", first);
+    expect("\ngo 0 0 0\n", "\ngo again 0 0\n", first);
+    expect("listing\nend 0 0 0\n", "listing\n", "14: the lister gives\nend 0 0 0\n");
+    let no_step = "1: this example has no line `listing` or `after N turns, observer V`";
+    expect("go again 0 0\nlisting\n", "go again 0 0\nlistings\n", no_step);
 }
 
 #[test]
@@ -109,7 +152,7 @@ fn posts_that_the_monitor_tells_otherwise() {
     expect("dropped", "delivered", "6: the monitor tells `dropped`");
     expect("slot 0: dropped", "slot 16: dropped", "6: the monitor tells `refused 14`");
     expect("refused 15", "refused 14", "7: the monitor tells `refused 15`");
-    expect("raise 2 0 0", "raise 16 0 0", "5: the monitor tells `refused 6`");
+    expect("slot 1\n", "slot 1 kind 9\n", "5: the monitor tells `refused 9`");
     expect("label 16 to", "label 2 to", "7: the monitor tells `delivered`");
     expect("1 1 2 0 1 1", "1 1 2 0 1 0", "8: the monitor gives\nslot kind label spare pc mail\n1 1 2 0 1 1\n");
     expect("after 3 turns", "after 1 turn", "8: 2 turns were run before this line");

@@ -2,7 +2,7 @@
 //! caller's buffer.
 
 use crate::ffi::{self, Told};
-use crate::{MessageLabel, Observer, Refusal, Slot, IMAGE_MAX, SHEET_MAX};
+use crate::{MessageLabel, Observer, Refusal, Slot, IMAGE_MAX, LISTING_MAX, PROGRAM_MAX, SHEET_MAX};
 use std::ops::Range;
 
 /// What [`turns`] gives. Both are for the host alone: they depend on all tasks, whoever may see them.
@@ -157,6 +157,43 @@ pub fn sheet(image: &[u8], observer: impl Into<Observer>) -> Result<Vec<u8>, Ref
 /// Refusals 1 and 3 to 13; the buffer is as it was.
 pub fn sheet_into(image: &[u8], observer: impl Into<Observer>, out: &mut [u8]) -> Result<usize, Refusal> {
     written(ffi::sheet(image, observer.into().number(), out))
+}
+
+/// The program of a text, as it stands in an image behind its 2-byte length: four bytes for each line. A line is a word of the
+/// table of instructions, then three numbers in decimal without leading zeros, single spaces between, and a line feed, on the
+/// last line too. Nothing else belongs to the text, and it may be any bytes.
+///
+/// # Errors
+/// Refusal 16, then 5, where there is no line or more than 256, then 6, as for every number above 255, however long.
+pub fn assemble(text: impl AsRef<[u8]>) -> Result<Vec<u8>, Refusal> {
+    allocated(PROGRAM_MAX, |out| assemble_into(text, out))
+}
+
+/// [`assemble`] into a buffer. It tells the number of bytes written; those behind them stay as they were.
+///
+/// # Errors
+/// Refusals 16, 5, 6 and 13, in this order; the buffer is as it was.
+pub fn assemble_into(text: impl AsRef<[u8]>, out: &mut [u8]) -> Result<usize, Refusal> {
+    written(ffi::assemble(text.as_ref(), out))
+}
+
+/// The listing of a program: the text of which [`assemble`] makes the same bytes. A text that was assembled comes back as it
+/// was typed.
+///
+/// # Errors
+/// Refusals 5 and 6.
+pub fn disassemble(program: &[u8]) -> Result<String, Refusal> {
+    let text = allocated(LISTING_MAX, |out| disassemble_into(program, out))?;
+    // The archive's listings are proved to be words and numbers in ASCII.
+    Ok(String::from_utf8(text).unwrap_or_else(|_| unreachable!("librithennaw.a wrote a listing that is no text")))
+}
+
+/// [`disassemble`] into a buffer, as ASCII. It tells the number of bytes written; those behind them stay as they were.
+///
+/// # Errors
+/// Refusals 5, 6 and 13; the buffer is as it was.
+pub fn disassemble_into(program: &[u8], out: &mut [u8]) -> Result<usize, Refusal> {
+    written(ffi::disassemble(program, out))
 }
 
 /// What a call writes into a buffer of `room` bytes, which is enough for every answer of that call.

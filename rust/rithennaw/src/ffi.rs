@@ -24,6 +24,12 @@ mod archive {
         pub fn rithennaw_sheet(
             image: *const u8, image_len: usize, observer: u32, out: *mut u8, out_len: usize, length: *mut usize,
         ) -> u8;
+        pub fn rithennaw_assemble(
+            text: *const u8, text_len: usize, out: *mut u8, out_len: usize, length: *mut usize,
+        ) -> u8;
+        pub fn rithennaw_disassemble(
+            program: *const u8, program_len: usize, out: *mut u8, out_len: usize, length: *mut usize,
+        ) -> u8;
     }
 }
 
@@ -112,6 +118,23 @@ pub fn sheet(image: &[u8], observer: u32, out: &mut [u8]) -> Told {
     // SAFETY: as in `rewrite`.
     let number = unsafe {
         archive::rithennaw_sheet(image.as_ptr(), image.len(), observer, out.as_mut_ptr(), out.len(), &mut length)
+    };
+    Told { number, length }
+}
+
+pub fn assemble(text: &[u8], out: &mut [u8]) -> Told {
+    let mut length = 0;
+    // SAFETY: as in `rewrite`, with the text in the image's place.
+    let number =
+        unsafe { archive::rithennaw_assemble(text.as_ptr(), text.len(), out.as_mut_ptr(), out.len(), &mut length) };
+    Told { number, length }
+}
+
+pub fn disassemble(program: &[u8], out: &mut [u8]) -> Told {
+    let mut length = 0;
+    // SAFETY: as in `rewrite`, with the program in the image's place.
+    let number = unsafe {
+        archive::rithennaw_disassemble(program.as_ptr(), program.len(), out.as_mut_ptr(), out.len(), &mut length)
     };
     Told { number, length }
 }

@@ -2,9 +2,10 @@
 //!
 //! Several owners' tasks run side by side. Each task has a [`Label`], the set of owners whose figures it may have
 //! touched. The monitor takes an image of all tasks as bytes, runs [`turns`], puts the host's own messages into mailboxes
-//! ([`post`]), and gives each observer a [`view`] or a [`sheet`]. What an image means, what a turn and a post do and what a
-//! view shows is proved; this crate hands slices to the archive `librithennaw.a` and adds nothing. The crate itself is tested
-//! and not proved.
+//! ([`post`]), and gives each observer a [`view`] or a [`sheet`]. The program that the tasks run is typed as text:
+//! [`assemble`] turns it into bytes, and [`disassemble`] lists it again. What an image means, what a turn and a post do, what
+//! a view shows and which bytes a text stands for is proved; this crate hands slices to the archive `librithennaw.a` and adds
+//! nothing. The crate itself is tested and not proved.
 //!
 //! Every call takes any bytes and any numbers, so the caller checks nothing beforehand: what cannot be taken is
 //! refused with a [`Refusal`], and a refused call writes nothing. No call panics, whatever it is given. Nothing is
@@ -58,6 +59,23 @@
 //! assert_eq!(view(&posted.image, owner_1)?, shown);
 //! # Ok::<(), Refusal>(())
 //! ```
+//!
+//! The same program as text. A line has the word of an instruction and three numbers, and always a line feed.
+//!
+//! ```
+//! use rithennaw::{assemble, disassemble, Refusal};
+//!
+//! let text = "send 1 1 2\nend 0 0 0\n";
+//! let program = assemble(text)?;
+//! assert_eq!(program, [0x08, 1, 1, 2, 0x00, 0, 0, 0]);
+//! assert_eq!(disassemble(&program)?, text);
+//!
+//! assert_eq!(assemble("send 1 1 2\nend 0 0 0"), Err(Refusal::Text)); // the last line feed is missing
+//! assert_eq!(assemble("send 1 01 2\n"), Err(Refusal::Text)); // a leading zero
+//! assert_eq!(assemble("send 1 16 2\n"), Err(Refusal::Instruction)); // there is no label 16
+//! assert_eq!(assemble(""), Err(Refusal::ProgramLength)); // no line; there may be 256
+//! # Ok::<(), Refusal>(())
+//! ```
 
 #![deny(missing_docs, unsafe_code, unsafe_op_in_unsafe_fn)]
 
@@ -71,8 +89,8 @@ mod refusal;
 
 pub use argument::{MessageLabel, Observer, Slot};
 pub use calls::{
-    check, post, post_into, record, record_range, rewrite, rewrite_into, sheet, sheet_into, turns, turns_into, view,
-    view_into, Posted, PostedInto, Turned, TurnedInto,
+    assemble, assemble_into, check, disassemble, disassemble_into, post, post_into, record, record_range, rewrite,
+    rewrite_into, sheet, sheet_into, turns, turns_into, view, view_into, Posted, PostedInto, Turned, TurnedInto,
 };
 pub use label::Label;
 pub use range::OutOfRange;
@@ -86,6 +104,14 @@ pub const IMAGE_MAX: usize = 7796;
 
 /// A buffer of this length is long enough for every sheet.
 pub const SHEET_MAX: usize = 318;
+
+/// The length of the longest program, 256 instructions. A buffer of this length is long enough for every text that is
+/// assembled.
+pub const PROGRAM_MAX: usize = 1024;
+
+/// The length of the longest listing, 256 lines of 17 bytes. A buffer of this length is long enough for every program that is
+/// disassembled.
+pub const LISTING_MAX: usize = 4352;
 
 /// The most turns in one call.
 pub const TURNS_MAX: u64 = 1_000_000;

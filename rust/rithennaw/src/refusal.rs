@@ -39,7 +39,7 @@ refusals! {
     TurnLimit = 2, "turn limit", "More than 1,000,000 turns were asked for.";
     Short = 3, "short", "The image ends before the last byte of the field or part being read.";
     Version = 4, "version", "The image's first byte, its version, isn't 1.";
-    ProgramLength = 5, "program length", "The program's length is no multiple of 4 from 4 to 1,024.";
+    ProgramLength = 5, "program length", "The program's length is no multiple of 4 from 4 to 1,024: 1 to 256 instructions.";
     Instruction = 6, "instruction", "An instruction isn't in the table, or has an operand outside it.";
     TurnSlot = 7, "turn slot", "The turn slot is above 15.";
     RecordLength = 8, "record length", "A record's length is neither 0 nor 37 + 6 * k, k at most 64.";
@@ -50,6 +50,7 @@ refusals! {
     Output = 13, "output", "The output is shorter than the answer.";
     PostSlot = 14, "post slot", "The slot posted to is above 15.";
     PostLabel = 15, "post label", "The label of the message posted is above 15.";
+    Text = 16, "text", "The text isn't a list of lines, each a word of the table, three numbers and a line feed.";
 }
 
 impl Refusal {

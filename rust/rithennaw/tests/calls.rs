@@ -1,9 +1,10 @@
-//! Every call, those that write in both forms: they agree, refuse what the scope document refuses, and take empty slices
-//! and extreme numbers.
+//! Every call, those that write in both forms: they agree, refuse what the scope document and its change requests refuse, and
+//! take empty slices and extreme numbers.
 
 use rithennaw::{
-    check, post, post_into, record, record_range, rewrite, rewrite_into, sheet, sheet_into, turns, turns_into, view,
-    view_into, Label, Posted, PostedInto, Refusal, Turned, TurnedInto, HOST, IMAGE_MAX, IMAGE_MIN, TURNS_MAX,
+    assemble, assemble_into, check, disassemble, disassemble_into, post, post_into, record, record_range, rewrite,
+    rewrite_into, sheet, sheet_into, turns, turns_into, view, view_into, Label, Posted, PostedInto, Refusal, Turned,
+    TurnedInto, HOST, IMAGE_MAX, IMAGE_MIN, LISTING_MAX, PROGRAM_MAX, TURNS_MAX,
 };
 
 /// The image of a text whose form is right.
@@ -192,4 +193,94 @@ fn extreme_numbers_are_refused_ahead_of_the_image() {
         }
     }
     assert_eq!(turns(&accepted, TURNS_MAX).map(|turned| turned.busy), Ok(3));
+}
+
+/// A text and its program: each gives the other, in both forms.
+fn stand_for_each_other(text: &str, program: &[u8]) {
+    assert_eq!(assemble(text).as_deref(), Ok(program), "{text}");
+    assert_eq!(disassemble(program).as_deref(), Ok(text), "{text}");
+    agree(program, |out| assemble_into(text, out), |length| length);
+    agree(text.as_bytes(), |out| disassemble_into(program, out), |length| length);
+}
+
+#[test]
+fn a_text_and_its_program_give_each_other() {
+    let image = sender_and_receiver();
+    stand_for_each_other("send 1 1 2\nend 0 0 0\n", &image[3..11]);
+    stand_for_each_other("end 0 0 0\n", &[0; 4]);
+    stand_for_each_other("go 2 0 0\nset 7 255 0\npoll 1 2 0\n", &[5, 2, 0, 0, 1, 7, 255, 0, 10, 1, 2, 0]);
+    assert_eq!(assemble(b"self 0 1 0\n"), Ok(vec![12, 0, 1, 0]));
+}
+
+#[test]
+fn the_longest_program_and_its_listing_have_the_lengths_of_the_constants() {
+    let (text, program) = ("sandbox 7 255 15\n".repeat(256), [11, 7, 255, 15].repeat(256));
+    assert_eq!((program.len(), text.len()), (PROGRAM_MAX, LISTING_MAX));
+    stand_for_each_other(&text, &program);
+}
+
+/// What a text is refused with in both forms, whatever the buffer's length.
+fn refused_text(text: impl AsRef<[u8]>, refusal: Refusal) {
+    let text = text.as_ref();
+    for length in [0, 1, IMAGE_MAX] {
+        let mut out = vec![0xa5; length];
+        assert_eq!(assemble_into(text, &mut out), Err(refusal), "{text:?}");
+        assert!(out.iter().all(|&byte| byte == 0xa5), "a refused call wrote");
+    }
+    assert_eq!(assemble(text), Err(refusal), "{text:?}");
+}
+
+/// Texts that are no list of lines.
+const NO_LISTS: [&str; 16] = [
+    "\n",
+    "end 0 0 0",
+    "end 0 0 0\r\n",
+    "end 0 0 0\n\n",
+    "end 0 0 0\n\0",
+    "End 0 0 0\n",
+    "halt 0 0 0\n",
+    "end 0 0\n",
+    "end 0 0 0 0\n",
+    " end 0 0 0\n",
+    "end  0 0 0\n",
+    "end 0 0 0 \n",
+    "end 0 0 0\u{a0}\n",
+    "end 0 0 00\n",
+    "end 0 0 -1\n",
+    "# end\n",
+];
+
+#[test]
+fn a_text_is_refused_with_16_then_5_then_6() {
+    for text in NO_LISTS {
+        refused_text(text, Refusal::Text);
+        refused_text("set 8 0 0\n".repeat(257) + text, Refusal::Text);
+    }
+    refused_text(b"end 0 0 \xff\n", Refusal::Text);
+    refused_text("", Refusal::ProgramLength);
+    refused_text("end 0 0 0\n".repeat(257), Refusal::ProgramLength);
+    refused_text("set 8 0 0\n".repeat(257), Refusal::ProgramLength);
+    for line in ["set 8 0 0\n", "end 0 0 1\n", "go 1 0 0\n", "raise 16 0 0\n", "sandbox 0 0 0\n", "set 0 0 256\n"] {
+        refused_text(line, Refusal::Instruction);
+    }
+    refused_text(format!("set 0 0 1{}\n", "0".repeat(100_000)), Refusal::Instruction);
+}
+
+#[test]
+fn a_program_is_refused_with_5_then_6() {
+    let refused = |program: &[u8], refusal: Refusal| {
+        for length in [0, 1, IMAGE_MAX] {
+            let mut out = vec![0xa5; length];
+            assert_eq!(disassemble_into(program, &mut out), Err(refusal), "{program:?}");
+            assert!(out.iter().all(|&byte| byte == 0xa5), "a refused call wrote");
+        }
+        assert_eq!(disassemble(program), Err(refusal), "{program:?}");
+    };
+    for length in [0, 1, 3, 5, PROGRAM_MAX + 1, PROGRAM_MAX + 4, 70_000] {
+        refused(&vec![0; length], Refusal::ProgramLength);
+        refused(&vec![255; length], Refusal::ProgramLength);
+    }
+    refused(&[255, 0, 0, 0], Refusal::Instruction);
+    refused(&[1, 8, 0, 0], Refusal::Instruction);
+    refused(&[0, 0, 0, 0, 5, 2, 0, 0], Refusal::Instruction);
 }

@@ -1,7 +1,7 @@
 //! The constants, and the numbers, words and sentences of refusals, are those of include/rithennaw.h; the header's limits
 //! are those of the definitions.
 
-use rithennaw::{Label, Refusal, Slot, HOST, IMAGE_MAX, IMAGE_MIN, SHEET_MAX, TURNS_MAX};
+use rithennaw::{Label, Refusal, Slot, HOST, IMAGE_MAX, IMAGE_MIN, LISTING_MAX, PROGRAM_MAX, SHEET_MAX, TURNS_MAX};
 use std::fs;
 
 /// A file of the repository.
@@ -29,6 +29,8 @@ fn constants_are_the_headers() {
     assert_eq!(defined(&header, "IMAGE_MIN"), Some(IMAGE_MIN as u64));
     assert_eq!(defined(&header, "IMAGE_MAX"), Some(IMAGE_MAX as u64));
     assert_eq!(defined(&header, "SHEET_MAX"), Some(SHEET_MAX as u64));
+    assert_eq!(defined(&header, "PROGRAM_MAX"), Some(PROGRAM_MAX as u64));
+    assert_eq!(defined(&header, "LISTING_MAX"), Some(LISTING_MAX as u64));
     assert_eq!(defined(&header, "TURNS_MAX"), Some(TURNS_MAX));
     assert_eq!(defined(&header, "OBSERVER_MAX"), Some(u8::from(Label::TOP).into()));
     assert_eq!(defined(&header, "LABEL_MAX"), Some(u8::from(Label::TOP).into()));
@@ -44,6 +46,8 @@ fn the_headers_limits_are_the_definitions() {
         ("IMAGE_MIN", "shortestImage"),
         ("IMAGE_MAX", "longestImage"),
         ("SHEET_MAX", "sheetRoom"),
+        ("PROGRAM_MAX", "longestProgram"),
+        ("LISTING_MAX", "longestListing"),
         ("TURNS_MAX", "turnLimit"),
         ("OBSERVER_MAX", "highestLabel"),
         ("LABEL_MAX", "highestLabel"),

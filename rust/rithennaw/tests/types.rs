@@ -50,18 +50,18 @@ fn an_observer_a_message_label_and_a_slot_are_any_number() {
 }
 
 #[test]
-fn a_refusal_is_a_number_from_1_to_15() {
+fn a_refusal_is_a_number_from_1_to_16() {
     for number in 0..=u8::MAX {
         let refusal = Refusal::try_from(number);
-        assert_eq!(refusal.is_ok(), (1..=15).contains(&number), "{number}");
+        assert_eq!(refusal.is_ok(), (1..=16).contains(&number), "{number}");
         assert_eq!(refusal.map_or(number, Refusal::number), number);
     }
-    assert_eq!(Refusal::try_from(0).unwrap_err().to_string(), "0 is not from 1 to 15");
-    assert!(Refusal::ALL.iter().map(|refusal| refusal.number()).eq(1..=15));
+    assert_eq!(Refusal::try_from(0).unwrap_err().to_string(), "0 is not from 1 to 16");
+    assert!(Refusal::ALL.iter().map(|refusal| refusal.number()).eq(1..=16));
 }
 
 #[test]
-fn refusals_have_the_words_of_the_scope_document_and_two_more() {
+fn refusals_have_the_words_of_the_scope_document_and_three_more() {
     let words = [
         "observer",
         "turn limit",
@@ -78,6 +78,7 @@ fn refusals_have_the_words_of_the_scope_document_and_two_more() {
         "output",
         "post slot",
         "post label",
+        "text",
     ];
     assert!(Refusal::ALL.iter().map(|refusal| refusal.word()).eq(words));
     let error: Box<dyn Error> = Refusal::Tail.into();

@@ -2,7 +2,6 @@
 use borrow.Author.Tests.{lt-leb, le-leb}
 use native.Mathlib.Omega.{arith}
 use Rattle.image.specs.Refusal.{programNumber}
-use Rattle.image.proofs.Refusal.{instructions-number}
 use Rattle.image.proofs.program_number.Statement.{statement}
 use Rattle.image.proofs.program_number.Tie as tie
 
@@ -19,18 +18,16 @@ returns-2 c =
 returns-3 : tie.Need-returns-3
 unfolding programNumber
 returns-3 c =
-    let d = c .before .before .before .before .before in
+    let d = c .before .before .before .before in
     rw (
-      instructions-number,
-      ← c .before .before .program .ensures,
-      ← c .before .all-legal .ensures,
+      ← c .before .program .ensures,
       le-leb _ _ (d .before .before .if1 .left),
       ← d .before .program-length .ensures .0,
       ← d .is-program-length .ensures,
-      c .before .before .before .before .if2 .taken,
-      le-leb _ _ (c .before .before .before .if3 .left),
+      c .before .before .before .if2 .taken,
+      le-leb _ _ (c .before .before .if3 .left),
     )
-    (c .unless .ensures)
+    (c .instructions-number .ensures)
 
 returns-4 : tie.Need-returns-4
 unfolding programNumber
@@ -47,7 +44,6 @@ program-number-spec =
     (λ c κs. tt)
     (λ c. omega arith)
     returns-2
-    (λ c κs. tt)
     (λ c κs. tt)
     (λ c κs. tt)
     returns-3

@@ -1,5 +1,4 @@
--- The four bytes of an instruction: what `instruction::encode` promises. No claim and no call's promise names it; laws go
--- through it.
+-- The four bytes of an instruction, which the laws of the table go through.
 use Prim.Native.Nat.{ℕ}
 use mathlib.Core.List.{List, [], _∷_}
 use Rattle.instruction.specs.declared.Instruction.{Instruction}
