@@ -22,12 +22,9 @@ use Rattle.monitor.proofs.Calls.{busy-0}
 use Rattle.listing.specs.Listing.{Line, line, Spells, isBytes, isAdmitted, linesNumber, lineBytes, programBytes, assembleCall, noListCall, AssemblePromise, lineOf, linesOf}
 use Rattle.listing.specs.Inner.{keptByte, keptBytes, Kept, IsRead, keptNumber}
 use Rattle.listing.proofs.Texts.{lines-unique, reading, spelled, other}
-use Rattle.listing.proofs.Program.{line-item}
+use Rattle.listing.proofs.Program.{noLine, line-item}
 
 -- ---- the lines of a program's bytes are those that it was made of
-
-abbrev none : Line
-none = line 0 0 0 0
 
 -- the operands of a line are within the table, as bytes
 abbrev pub legalIn : ℕ → Line → Bool
@@ -45,14 +42,14 @@ module _ (ls : List Line) where
   unfolding linesOf programBytes
   program-lines =
       rw (program-count, ← append-nil (encodeItems lineBytes ls))
-      (items-forth 4 lineOf lineBytes (λ l. Unit {0}) (λ l. refl) (λ l q u. refl) ls [] (every-of (λ l. Unit {0}) none ls (λ i. tt)))
+      (items-forth 4 lineOf lineBytes (λ l. Unit {0}) (λ l. refl) (λ l q u. refl) ls [] (every-of (λ l. Unit {0}) noLine ls (λ i. tt)))
 
-  legal-item : (i : ℕ) → i < length ls → isLegal (instructionAt (programBytes ls) i) ≡ legalIn (length ls) (getD ls i none)
+  legal-item : (i : ℕ) → i < length ls → isLegal (instructionAt (programBytes ls) i) ≡ legalIn (length ls) (getD ls i noLine)
   legal-item i h =
       let q = programBytes ls in
       let within : i < count q = omega (arith, program-count) in
-      let item : getD ls i none ≡ line (getD q (4 * i) 0) (getD q (4 * i + 1) 0) (getD q (4 * i + 2) 0) (getD q (4 * i + 3) 0)
-      = ap (λ (xs : List Line). getD xs i none) (sym program-lines) ∙ line-item q i none within in
+      let item : getD ls i noLine ≡ line (getD q (4 * i) 0) (getD q (4 * i + 1) 0) (getD q (4 * i + 2) 0) (getD q (4 * i + 3) 0)
+      = ap (λ (xs : List Line). getD xs i noLine) (sym program-lines) ∙ line-item q i noLine within in
       rw (at-within q i within, program-count, item) refl
 
   pub legal-lines : allLegal (programBytes ls) ≡ all (legalIn (length ls)) ls
@@ -60,9 +57,9 @@ module _ (ls : List Line) where
   legal-lines =
       let q = programBytes ls in
       same-tests (allLegal q) (all (legalIn (length ls)) ls)
-      (λ e. all-intro (legalIn (length ls)) none ls (λ i h. sym (legal-item i h) ∙ legal-at q e i (omega (arith, program-count))))
+      (λ e. all-intro (legalIn (length ls)) noLine ls (λ i h. sym (legal-item i h) ∙ legal-at q e i (omega (arith, program-count))))
       (λ e. each-intro (count q) (λ i. isLegal (instructionAt q i)) (λ i h. let l : i < length ls = omega (arith, program-count) in
-      legal-item i l ∙ all-at (legalIn (length ls)) none ls e i l))
+      legal-item i l ∙ all-at (legalIn (length ls)) noLine ls e i l))
 
 -- ---- lines whose numbers are bytes are kept as they are
 

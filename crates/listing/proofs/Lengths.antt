@@ -24,9 +24,9 @@ use Rattle.machine.specs.Valid.{isProgramLength}
 use Rattle.machine.proofs.Rules.{size-facts}
 use Rattle.image.specs.Refusal.{unless}
 use Rattle.image.proofs.Refusal.{then-left, then-right, unless-none, instructions-number}
-use Rattle.listing.specs.Listing.{Line, line, wordOf, lineText, listingText, partNumber, linesOf}
+use Rattle.listing.specs.Listing.{line, wordOf, lineText, listingText, partNumber, linesOf}
 use Rattle.listing.proofs.Lines.{text-length}
-use Rattle.listing.proofs.Program.{lines-many, line-item}
+use Rattle.listing.proofs.Program.{noLine, lines-many, line-item}
 
 -- ---- a line
 
@@ -99,22 +99,19 @@ part-facts program e =
     record { size = (size .1, size .2); whole = omega (arith, size .0); legal = legal }
 
 module _ (program : List ℕ) (bytes : Bytes program) (accepted : partNumber program ≡ 0) where
-  abbrev none : Line
-  none = line 0 0 0 0
-
-  each-most : (i : ℕ) → length (lineText (getD (linesOf program) i none)) ≤ 17
+  each-most : (i : ℕ) → length (lineText (getD (linesOf program) i noLine)) ≤ 17
   unfolding decode
   each-most i =
       dite (decLt i (count program))
       (λ h.
       let legal = legal-at program (part-facts program accepted .legal) i h in
-      rw (line-item program i none h)
+      rw (line-item program i noLine h)
       (line-most (count program) _ _ _ _ (byte-at program bytes _) (byte-at program bytes _) (byte-at program bytes _) (rw (at-within program i h) at legal)))
-      (λ h. rw (List·getD-eq-default (linesOf program) none {n = i} (rw lines-many (omega arith))) (line-most 1 0 0 0 0 (omega arith) (omega arith) (omega arith) refl))
+      (λ h. rw (List·getD-eq-default (linesOf program) noLine {n = i} (rw lines-many (omega arith))) (line-most 1 0 0 0 0 (omega arith) (omega arith) (omega arith) refl))
 
   pub listing-most : length (listingText (linesOf program)) ≤ longestListing
   unfolding listingText
   listing-most =
       let f = part-facts program accepted in
-      let most = items-most lineText 17 (linesOf program) (every-of _ none (linesOf program) each-most) in
+      let most = items-most lineText 17 (linesOf program) (every-of _ noLine (linesOf program) each-most) in
       omega (arith, most, lines-many program, f .whole, f .size .1)

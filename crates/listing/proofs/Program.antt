@@ -9,6 +9,10 @@ use Rattle.wire.proofs.Items.{length-decode, getD-decode}
 use Rattle.instruction.specs.Program.{count}
 use Rattle.listing.specs.Listing.{Line, line, lineOf, linesOf}
 
+-- what stands past the last line, where one is asked for
+abbrev pub noLine : Line
+noLine = line 0 0 0 0
+
 module _ (program : List ℕ) where
   pub lines-many : length (linesOf program) ≡ count program
   unfolding linesOf

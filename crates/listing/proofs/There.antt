@@ -20,14 +20,11 @@ use Rattle.instruction.proofs.Program.{at-within, legal-at}
 use Rattle.machine.specs.Valid.{isProgramLength}
 use Rattle.image.specs.Refusal.{_then_, unless}
 use Rattle.image.proofs.Refusal.{then-left, then-right, unless-none, instructions-number}
-use Rattle.listing.specs.Listing.{Line, line, listingText, Spells, isBytes, isAdmitted, linesNumber, lineBytes, programBytes, partNumber, lineOf, linesOf}
+use Rattle.listing.specs.Listing.{Line, listingText, Spells, isBytes, isAdmitted, linesNumber, lineBytes, programBytes, partNumber, lineOf, linesOf}
 use Rattle.listing.proofs.Texts.{Known}
-use Rattle.listing.proofs.Program.{lines-many, line-item}
+use Rattle.listing.proofs.Program.{noLine, lines-many, line-item}
 use Rattle.listing.proofs.Lengths.{PartFacts, part-facts}
 use Rattle.listing.proofs.Assembled.{legalIn, legal-lines, program-length}
-
-abbrev none : Line
-none = line 0 0 0 0
 
 -- ---- a legal instruction's code is in the table
 
@@ -64,21 +61,21 @@ module _ (program : List ℕ) (bytes : Bytes program) (accepted : partNumber pro
       ∙ take-all (4 * count program) program (omega (arith, facts .whole))
 
   -- what is told of the line at index i
-  item-known : (i : ℕ) → Known (getD (linesOf program) i none)
+  item-known : (i : ℕ) → Known (getD (linesOf program) i noLine)
   item-known i =
       dite (decLt i (count program))
-      (λ h. rw (line-item program i none h)
+      (λ h. rw (line-item program i noLine h)
       (legal-known (count program) _ _ _ _ (rw (at-within program i h) at (legal-at program (facts .legal) i h))))
-      (λ h. rw (List·getD-eq-default (linesOf program) none {n = i} (rw lines-many (omega arith))) (omega arith))
+      (λ h. rw (List·getD-eq-default (linesOf program) noLine {n = i} (rw lines-many (omega arith))) (omega arith))
 
-  item-bytes : (i : ℕ) → i < length (linesOf program) → isBytes (getD (linesOf program) i none) ≡ true
+  item-bytes : (i : ℕ) → i < length (linesOf program) → isBytes (getD (linesOf program) i noLine) ≡ true
   item-bytes i h =
       let within : i < count program = omega (arith, lines-many program) in
       let byte : (j : ℕ) → leb (getD program j 0) 255 ≡ true = λ j. le-leb (getD program j 0) 255 (omega (arith, byte-at program bytes j)) in
-      rw (line-item program i none within, byte, byte, byte) refl
+      rw (line-item program i noLine within, byte, byte, byte) refl
 
   pub program-spelled : Spells (linesOf program) (listingText (linesOf program))
-  program-spelled = record { words = every-of Known none (linesOf program) item-known; spelled = refl }
+  program-spelled = record { words = every-of Known noLine (linesOf program) item-known; spelled = refl }
 
   pub lines-accepted : linesNumber (linesOf program) ≡ 0
   unfolding linesNumber
@@ -87,7 +84,7 @@ module _ (program : List ℕ) (bytes : Bytes program) (accepted : partNumber pro
       let n = length ls in
       let many = lines-many program in
       let legal : all (legalIn n) ls ≡ true = sym (legal-lines ls) ∙ ap allLegal lines-back ∙ facts .legal in
-      let bytes = all-intro isBytes none ls item-bytes in
+      let bytes = all-intro isBytes noLine ls item-bytes in
       let low : leb 1 n ≡ true = le-leb 1 n (omega (arith, many, facts .whole, facts .size)) in
       let high : leb n 256 ≡ true = le-leb n 256 (omega (arith, many, facts .whole, facts .size)) in
       rw (low, high, all-and isBytes (legalIn n) ls, bytes, legal) refl

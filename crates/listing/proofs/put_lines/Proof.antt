@@ -6,8 +6,8 @@ use lib.ListN.{length}
 use Rattle.wire.specs.Items.{encodeItems}
 use Rattle.wire.proofs.Output.{ItemsWritten, items-none, item-room, item-part, items-more, items-size, items-all}
 use Rattle.instruction.specs.Program.{count}
-use Rattle.listing.specs.Listing.{Line, line, lineText, listingText, linesOf}
-use Rattle.listing.proofs.Program.{lines-many, line-item}
+use Rattle.listing.specs.Listing.{lineText, listingText, linesOf}
+use Rattle.listing.proofs.Program.{noLine, lines-many, line-item}
 use Rattle.listing.proofs.put_lines.Statement.{statement}
 use Rattle.listing.proofs.put_lines.Tie as tie
 
@@ -16,10 +16,6 @@ Inv-loop out₀ program lines at₀ i₀ out at i = (i ≤ length program / 4) �
 
 abbrev μ-loop : tie.MeasureT-loop
 μ-loop out₀ program lines at₀ i₀ out at i = lines - i
-
--- where there is no line
-abbrev none : Line
-none = line 0 0 0 0
 
 -- there is room for all lines
 room : (s : tie.Start Inv-loop μ-loop) → length (encodeItems lineText (linesOf (now (s .args .program)))) ≤ length (now (s .args .out))
@@ -32,7 +28,7 @@ put-line-requires c κs =
     let h = c .before .before .before .before .before .before .loop in
     let program = now (s .args .program) in
     let more : h .i < count program = omega arith in
-    rw (← line-item program (h .i) none more) (item-part lineText (linesOf program) (now (s .args .out)) (room s) none (rw lines-many more) (h .inv .1))
+    rw (← line-item program (h .i) noLine more) (item-part lineText (linesOf program) (now (s .args .out)) (room s) noLine (rw lines-many more) (h .inv .1))
 
 add-at : tie.Need-add-at Inv-loop μ-loop
 add-at c =
@@ -40,8 +36,8 @@ add-at c =
     let h = c .before .before .before .before .before .before .before .before .before .loop in
     let program = now (s .args .program) in
     let more : h .i < count program = omega arith in
-    let fits = item-room lineText (linesOf program) (now (s .args .out)) (room s) none (rw lines-many more) (h .inv .1) in
-    omega (arith, rw (line-item program (h .i) none more) at fits, c .before .before .put-line .ensures .0, h .inv .1 .same, s .good .0 .0)
+    let fits = item-room lineText (linesOf program) (now (s .args .out)) (room s) noLine (rw lines-many more) (h .inv .1) in
+    omega (arith, rw (line-item program (h .i) noLine more) at fits, c .before .before .put-line .ensures .0, h .inv .1 .same, s .good .0 .0)
 
 loop-again : tie.Need-loop-again Inv-loop μ-loop
 loop-again c =
@@ -50,8 +46,8 @@ loop-again c =
     let program = now (s .args .program) in
     let more : h .i < count program = omega arith in
     let wrote = c .before .before .put-line in
-    let next = items-more lineText (linesOf program) (now (s .args .out)) (room s) none (rw lines-many more) (h .inv .1) (rw (← line-item program (h .i) none more) at (wrote .ensures .1)) in
-    (omega arith, rw (line-item program (h .i) none more, ← wrote .ensures .0) at next)
+    let next = items-more lineText (linesOf program) (now (s .args .out)) (room s) noLine (rw lines-many more) (h .inv .1) (rw (← line-item program (h .i) noLine more) at (wrote .ensures .1)) in
+    (omega arith, rw (line-item program (h .i) noLine more, ← wrote .ensures .0) at next)
 
 returns : tie.Need-returns Inv-loop μ-loop
 unfolding listingText
