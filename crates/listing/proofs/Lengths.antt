@@ -19,12 +19,13 @@ use Rattle.instruction.specs.Table.{Operand, R, T, L, S, any, blank, admits, Ro
 use Rattle.instruction.specs.Program.{count, isLegal, allLegal}
 use Rattle.instruction.proofs.Table.{within}
 use Rattle.instruction.proofs.Program.{at-within, legal-at}
+use Rattle.word.specs.Word.{wordOf}
 use Rattle.machine.specs.Limits.{longestListing}
 use Rattle.machine.specs.Valid.{isProgramLength}
 use Rattle.machine.proofs.Rules.{size-facts}
 use Rattle.image.specs.Refusal.{unless}
 use Rattle.image.proofs.Refusal.{then-left, then-right, unless-none, instructions-number}
-use Rattle.listing.specs.Listing.{line, wordOf, lineText, listingText, partNumber, linesOf}
+use Rattle.listing.specs.Listing.{line, lineText, listingText, partNumber, linesOf}
 use Rattle.listing.proofs.Lines.{text-length}
 use Rattle.listing.proofs.Program.{noLine, lines-many, line-item}
 

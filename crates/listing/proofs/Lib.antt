@@ -1,5 +1,4 @@
 -- The laws of the crate `listing`, a file each.
-pub mod Words
 pub mod Lines
 pub mod Keeping
 pub mod Program

@@ -17,9 +17,11 @@ use Rattle.text.specs.Text.{ascii, decimal, spaced, lineRest}
 use Rattle.text.specs.Inner.{ahead, numberLength, numberValue}
 use Rattle.text.proofs.Reading.{ahead-splits, ahead-of, number-value, number-length, found-number, found-inside}
 use Rattle.instruction.specs.Table.{table}
-use Rattle.listing.specs.Listing.{Line, wordOf, lineText}
-use Rattle.listing.specs.Inner.{codeOf, behindWord, behindNumber, lineAt, hasLine, lineLength}
-use Rattle.listing.proofs.Words.{word-code, word-no-space, code-word}
+use Rattle.word.specs.Word.{wordOf}
+use Rattle.word.specs.Inner.{codeOf}
+use Rattle.word.proofs.Words.{word-code, word-no-space, code-word}
+use Rattle.listing.specs.Listing.{Line, lineText}
+use Rattle.listing.specs.Inner.{behindWord, behindNumber, lineAt, hasLine, lineLength}
 
 -- with s between the parts and e at the end
 joined : (w s p q r e rest : List ℕ)

@@ -18,7 +18,7 @@ use Rattle.instruction.specs.Table.{Row, table, byCode, decodeBy, decode}
 use Rattle.instruction.specs.Program.{count, isLegal, allLegal}
 use Rattle.instruction.proofs.Program.{at-within, legal-at}
 use Rattle.machine.specs.Valid.{isProgramLength}
-use Rattle.image.specs.Refusal.{_then_, unless}
+use Rattle.image.specs.Refusal.{unless}
 use Rattle.image.proofs.Refusal.{then-left, then-right, unless-none, instructions-number}
 use Rattle.listing.specs.Listing.{Line, listingText, Spells, isBytes, isAdmitted, linesNumber, lineBytes, programBytes, partNumber, lineOf, linesOf}
 use Rattle.listing.proofs.Texts.{Known}

@@ -6,21 +6,17 @@ use mathlib.Core.Bool.{Bool, true, false, cond, _&&_}
 use mathlib.Core.List.{List, [], _∷_, _++_}
 use lib.Dec.{leb, ltb}
 use lib.ListN.{length, take, drop}
-use Rattle.wire.specs.Lists.{tabulate, all}
+use Rattle.wire.specs.Lists.{all}
 use Rattle.wire.specs.Items.{encodeItems}
-use Rattle.wire.specs.Inner.{same, firstIndex}
 use Rattle.text.specs.Inner.{ahead, numberLength, numberValue}
 use Rattle.instruction.specs.Table.{table}
 use Rattle.instruction.specs.Program.{count}
+use Rattle.word.specs.Inner.{codeOf}
 use Rattle.image.specs.Refusal.{_then_, unless, instructionsNumber}
 use Rattle.listing.specs.declared.ReadLine.{ReadLine}
-use Rattle.listing.specs.Listing.{Line, line, Spells, wordOf, isBytes}
+use Rattle.listing.specs.Listing.{Line, line, Spells, isBytes}
 
 -- ---- a line
-
--- the code of a word, the number of rows where it is not in the table
-unfoldable pub codeOf : List ℕ → ℕ
-codeOf w = firstIndex (λ k. same w (wordOf k)) (tabulate (length table) (λ k. k))
 
 -- what stands behind the word, behind a and behind b
 abbrev pub behindWord : List ℕ → List ℕ

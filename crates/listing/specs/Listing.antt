@@ -8,9 +8,10 @@ use lib.Dec.{leb}
 use lib.ListN.{length, getD}
 use Rattle.wire.specs.Lists.{Every, all}
 use Rattle.wire.specs.Items.{decodeItems, encodeItems}
-use Rattle.text.specs.Text.{ascii, lineRest}
-use Rattle.instruction.specs.Table.{table, byCode, decode}
+use Rattle.text.specs.Text.{lineRest}
+use Rattle.instruction.specs.Table.{table, decode}
 use Rattle.instruction.specs.Program.{count, isLegal}
+use Rattle.word.specs.Word.{wordOf}
 use Rattle.machine.specs.Limits.{mostLines}
 use Rattle.machine.specs.Valid.{isProgramLength}
 use Rattle.image.specs.Refusal.{_then_, unless, instructionsNumber}
@@ -28,10 +29,6 @@ pub record Line : Type 0 where
 
 abbrev pub line : ℕ → ℕ → ℕ → ℕ → Line
 line code a b c = record { code = code; a = a; b = b; c = c }
-
--- the word of the table's row with this code
-unfoldable pub wordOf : ℕ → List ℕ
-wordOf code = byCode (λ r. ascii (r .word)) [] table code
 
 -- "A line is the word from 01's table, then a, b and c in decimal, single spaces between, no leading zeros, and a line feed, on the
 -- last line too."

@@ -4,68 +4,17 @@ ghost use Prim.Native.Nat.{_≤_, min};
 ghost use mathlib.Core.Path.{_≡_};
 ghost use lib.ListN.{length};
 ghost use Rattle.wire.specs.Output.{overwrite};
-ghost use Rattle.wire.specs.Inner.{written, same};
+ghost use Rattle.wire.specs.Inner.{written};
 ghost use Rattle.monitor.specs.Calls.{CallPromise};
 ghost use Rattle.monitor.specs.Inner.{outputAnswer};
-ghost use Rattle.listing.specs.Listing.{wordOf, line, lineText, listingText, AssemblePromise, partNumber, linesOf, disassembleCall};
-ghost use Rattle.listing.specs.Inner.{codeOf, lineAt, lineLength, kept, IsRead, keptNumber};
+ghost use Rattle.listing.specs.Listing.{line, lineText, listingText, AssemblePromise, partNumber, linesOf, disassembleCall};
+ghost use Rattle.listing.specs.Inner.{lineAt, lineLength, kept, IsRead, keptNumber};
 
 // No program is longer, in bytes: 256 instructions of four.
 pub const PROGRAM_MAX: usize = 1024;
 
 // No listing is longer, in bytes: 256 lines of at most seventeen.
 pub const LISTING_MAX: usize = 4352;
-
-// ---- words
-
-// The number of words: their codes are 0 to 12.
-const WORDS: u8 = 13;
-
-// Writes the word of a code, nothing where the table has none: how many bytes.
-fn put_word(out: &mut [u8], code: u8) -> usize
-    requires { ⌜ length (wordOf code) ≤ length (now out) ⌝ }
-    ensures { λ r. ⌜ (r ≡ length (wordOf code)) × (now (out .exit) ≡ overwrite (wordOf code) (now (out .entry))) ⌝ }
-{
-    match code {
-        0x00 => text::put(out, b"end"),
-        0x01 => text::put(out, b"set"),
-        0x02 => text::put(out, b"copy"),
-        0x03 => text::put(out, b"add"),
-        0x04 => text::put(out, b"subtract"),
-        0x05 => text::put(out, b"go"),
-        0x06 => text::put(out, b"zero"),
-        0x07 => text::put(out, b"raise"),
-        0x08 => text::put(out, b"send"),
-        0x09 => text::put(out, b"take"),
-        0x0A => text::put(out, b"poll"),
-        0x0B => text::put(out, b"sandbox"),
-        0x0C => text::put(out, b"self"),
-        _ => 0,
-    }
-}
-
-// Whether s is the word of a code.
-fn is_word(s: &[u8], code: u8) -> bool
-    ensures { λ r. ⌜ r ≡ same (now (s .entry)) (wordOf code) ⌝ }
-{
-    let mut word: [u8; 8] = [0; 8];
-    let n = put_word(&mut word, code);
-    wire::same(s, &word[..n])
-}
-
-// The code of a word, 13 where it is not in the table.
-fn code_of(s: &[u8]) -> u8
-    ensures { λ r. ⌜ r ≡ codeOf (now (s .entry)) ⌝ }
-{
-    let mut code: u8 = 0;
-    while code < WORDS {
-        if is_word(s, code) {
-            return code;
-        }
-        code += 1;
-    }
-    code
-}
 
 // ---- the writer
 
@@ -100,7 +49,7 @@ fn read_line(s: &[u8]) -> ReadLine
         × (r .length ≡ lineLength (now (s .entry))) ⌝ }
 {
     let word = wire::take(s, wire::index_of(s, b' '));
-    let code = code_of(word);
+    let code = word::code_of(word);
     let n = word.len() + 1;
     let behind_word = wire::drop(s, n);
     let a = text::read_number(behind_word, b' ');
@@ -108,7 +57,7 @@ fn read_line(s: &[u8]) -> ReadLine
     let b = text::read_number(behind_a, b' ');
     let behind_b = wire::drop(behind_a, b.length);
     let c = text::read_number(behind_b, b'\n');
-    if (code < WORDS) & (0 < a.length) & (0 < b.length) & (0 < c.length) {
+    if (code < word::WORDS) & (0 < a.length) & (0 < b.length) & (0 < c.length) {
         made(
             code,
             a.value,
@@ -242,7 +191,7 @@ fn put_line(out: &mut [u8], code: u8, a: u8, b: u8, c: u8) -> usize
     requires { ⌜ length (lineText (line code a b c)) ≤ length (now out) ⌝ }
     ensures { λ r. ⌜ (r ≡ length (lineText (line code a b c))) × (now (out .exit) ≡ overwrite (lineText (line code a b c)) (now (out .entry))) ⌝ }
 {
-    let n = put_word(out, code);
+    let n = word::put(out, code);
     n + text::put_line_rest(&mut out[n..], &[a as u32, b as u32, c as u32])
 }
 

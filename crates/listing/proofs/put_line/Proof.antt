@@ -7,7 +7,8 @@ use denote.Ref.{now}
 use lib.ListN.{length-append}
 use Rattle.wire.proofs.Output.{FrontWritten, part-inside, part-room, both-written, both-fit}
 use Rattle.text.specs.Text.{lineRest}
-use Rattle.listing.specs.Listing.{wordOf, lineText}
+use Rattle.word.specs.Word.{wordOf}
+use Rattle.listing.specs.Listing.{lineText}
 use Rattle.listing.proofs.put_line.Statement.{statement}
 use Rattle.listing.proofs.put_line.Tie as tie
 
@@ -18,16 +19,16 @@ word s = wordOf (s .args .code)
 abbrev others : tie.Start → List ℕ
 others s = lineRest (s .args .a ∷ s .args .b ∷ s .args .c ∷ [])
 
-front : (c : tie.After-put-word) → let s = c .before .before .before in FrontWritten (word s) (others s) (now (s .args .out)) (c .put-word .last .0) (c .put-word .result)
+front : (c : tie.After-put) → let s = c .before .before .before in FrontWritten (word s) (others s) (now (s .args .out)) (c .put .last .0) (c .put .result)
 unfolding lineText
-front c = record { size = c .put-word .ensures .0; front = c .put-word .ensures .1; room = c .before .before .before .pre }
+front c = record { size = c .put .ensures .0; front = c .put .ensures .1; room = c .before .before .before .pre }
 
 part : tie.Need-sub-put-line-rest
 part c = part-inside (front (c .before .before))
 
-put-word-requires : tie.Need-put-word-requires
+put-requires : tie.Need-put-requires
 unfolding lineText
-put-word-requires c κs = let s = c .before .before in omega (arith, s .pre, length-append (word s) (others s))
+put-requires c κs = let s = c .before .before in omega (arith, s .pre, length-append (word s) (others s))
 
 add-result : tie.Need-add-result
 add-result c =
@@ -42,7 +43,7 @@ pub put-line-spec : {M : Type 1} → statement M
 put-line-spec =
     tie.close
     (tie.spec
-    put-word-requires
+    put-requires
     part
     part
     (λ c. search needs)

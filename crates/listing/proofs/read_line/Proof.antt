@@ -10,7 +10,8 @@ use lib.Dec.{ltb}
 use lib.ListN.{length, take}
 use Rattle.text.specs.Inner.{ahead, numberLength}
 use Rattle.instruction.specs.Table.{table}
-use Rattle.listing.specs.Inner.{codeOf, behindWord, behindNumber, lineAt, hasLine, lineLength}
+use Rattle.word.specs.Inner.{codeOf}
+use Rattle.listing.specs.Inner.{behindWord, behindNumber, lineAt, hasLine, lineLength}
 use Rattle.listing.proofs.Lines.{has-length, has-inside, has-none}
 use Rattle.listing.proofs.read_line.Statement.{statement}
 use Rattle.listing.proofs.read_line.Tie as tie

@@ -1,16 +1,16 @@
--- `listing::put_word` meets its contract. An arm has two lines of either kind: there is room for its byte string, which at its code is
+-- `word::put` meets its contract. An arm has two lines of either kind: there is room for its byte string, which at its code is
 -- the word, and that is written.
 use borrow.Author.Needs.{needs}
 use Rattle.wire.specs.Lists.{tabulate}
 use Rattle.text.specs.Text.{ascii}
-use Rattle.listing.specs.Listing.{wordOf}
-use Rattle.listing.proofs.Words.{word-room, by-word, word-none}
-use Rattle.listing.proofs.put_word.Statement.{statement}
-use Rattle.listing.proofs.put_word.Tie as tie
+use Rattle.word.specs.Word.{wordOf}
+use Rattle.word.proofs.Words.{word-room, by-word, word-none}
+use Rattle.word.proofs.put.Statement.{statement}
+use Rattle.word.proofs.put.Tie as tie
 
-pub put-word-spec : {M : Type 1} → statement M
+pub put-spec : {M : Type 1} → statement M
 unfolding wordOf tabulate ascii
-put-word-spec =
+put-spec =
     tie.close
     (tie.spec
     (λ c. search needs)

@@ -1,4 +1,4 @@
--- `listing::code_of` meets its contract: no code before the one that is tried has the word.
+-- `word::code_of` meets its contract: no code before the one that is tried has the word.
 use Prim.Native.Nat.{ℕ, _-_, _≤_, _<_}
 use mathlib.Core.Path.{_≡_, sym, _∙_}
 use mathlib.Core.Bool.{Bool}
@@ -11,10 +11,10 @@ use Rattle.wire.specs.Inner.{same, firstIndex}
 use Rattle.wire.proofs.Lists.{first-here, first-next, first-past}
 use Rattle.wire.proofs.Tabulate.{getD-tabulate, length-tabulate}
 use Rattle.instruction.specs.Table.{table}
-use Rattle.listing.specs.Listing.{wordOf}
-use Rattle.listing.specs.Inner.{codeOf}
-use Rattle.listing.proofs.code_of.Statement.{statement}
-use Rattle.listing.proofs.code_of.Tie as tie
+use Rattle.word.specs.Word.{wordOf}
+use Rattle.word.specs.Inner.{codeOf}
+use Rattle.word.proofs.code_of.Statement.{statement}
+use Rattle.word.proofs.code_of.Tie as tie
 
 -- the codes that are tried
 abbrev codes : List ℕ

@@ -16,8 +16,8 @@ use Rattle.wire.proofs.Equal.{same-equal}
 use Rattle.text.specs.Text.{ascii}
 use Rattle.instruction.specs.Table.{Row, table, byCode}
 use Rattle.instruction.proofs.Arms.{NoRow, none-by-code}
-use Rattle.listing.specs.Listing.{wordOf}
-use Rattle.listing.specs.Inner.{codeOf}
+use Rattle.word.specs.Word.{wordOf}
+use Rattle.word.specs.Inner.{codeOf}
 
 -- by computation, of every row
 known : each (length table) (λ k. eqb (codeOf (wordOf k)) k && all (λ y. not (eqb y 32)) (wordOf k)) ≡ true

@@ -1,0 +1,2 @@
+-- The laws of the crate `word`, in one file.
+pub mod Words

@@ -1,0 +1,3 @@
+-- The definitions of the crate `word`, a file each.
+pub mod Word
+pub mod Inner
