@@ -5,7 +5,7 @@
 repository=$work/repository
 bin=$work/bin
 # The tools that are no stand-ins.
-tried='tools/check-kit tools/progress tools/tested tools/beside'
+tried='tools/check-kit tools/progress tools/scratch tools/tested tools/beside'
 
 program() { # FILE: what standard input has
     mkdir -p "$(dirname "$1")"
