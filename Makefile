@@ -33,7 +33,8 @@ installed := include/rithennaw.h lib/librithennaw.a lib/pkgconfig/rithennaw.pc b
 .NOTPARALLEL:
 .PHONY: all lib check test link-test rust-test examples demo differential bench install uninstall fmt clean help
 
-all: $(archive) $(slotsheet) ## prove and build the archive and the program slotsheet
+# slotsheet first: rt check proves crates side by side, and rt staticlib one after the other.
+all: $(slotsheet) $(archive) ## prove and build the archive and the program slotsheet
 
 lib: $(archive) ## prove and build the archive for C and Rust, target/staticlib/librithennaw.a
 
@@ -48,7 +49,7 @@ $(slotsheet): $(sources)
 check: ## prove what has changed since the last check
 	@$(prove) check
 
-# Quick checks first. Then archive and slotsheet are built once, where rt decides what has changed and not file times
+# Quick checks first. Then slotsheet and archive are built once, where rt decides what has changed and not file times
 # (-B), and tested. Proofs wait for each other and leave a processor free, so the longest test of the gate runs beside them. rt ci
 # is last: it removes target/, proves all from nothing, and its count has to be the last line.
 # tools/tested keeps the hashes of what was tested, for make install; they count once all has passed.
