@@ -5,8 +5,7 @@ ghost use mathlib.Core.Path.{_≡_};
 ghost use lib.ListN.{length};
 ghost use Rattle.wire.specs.Output.{overwrite};
 ghost use Rattle.wire.specs.Inner.{written};
-ghost use Rattle.monitor.specs.Calls.{CallPromise};
-ghost use Rattle.monitor.specs.Inner.{outputAnswer};
+ghost use Rattle.monitor.specs.Calls.{outputAnswer, CallPromise};
 ghost use Rattle.listing.specs.Listing.{line, lineText, listingText, AssemblePromise, partNumber, linesOf, disassembleCall};
 ghost use Rattle.listing.specs.Inner.{lineAt, lineLength, kept, IsRead, keptNumber};
 
@@ -139,19 +138,11 @@ fn lines_number(program: &[u8], lines: usize, bytes: bool) -> u8
 
 // Ends a call that refuses nothing it read: writes the answer, or tells 13 where the output has no room for it.
 fn write_answer(out: &mut [u8], answer: &[u8]) -> monitor::Answer
-    ensures { λ r. ⌜ (r ≡ outputAnswer (now (answer .entry)) 0 (now (out .entry))) × (now (out .exit) ≡ written (now (answer .entry)) (now (out .entry))) ⌝ }
+    ensures { λ r. ⌜ (r ≡ outputAnswer (length (now (answer .entry))) 0 (length (now (out .entry))))
+        × (now (out .exit) ≡ written (now (answer .entry)) (now (out .entry))) ⌝ }
 {
     wire::copy(out, answer);
-    let length = answer.len();
-    if length <= out.len() {
-        monitor::Answer {
-            number: 0,
-            length: length,
-            busy: 0,
-        }
-    } else {
-        monitor::refused(13)
-    }
+    monitor::answered(answer.len(), 0, out.len())
 }
 
 // Writes the program of a text.

@@ -1,7 +1,7 @@
 -- Laws of a call: when it is accepted, what it then tells and writes, and which numbers it may tell.
 use Prim.Native.Nat.{ℕ, zero, suc, _<_, _≤_}
 use mathlib.Core.Logic.{_≢_}
-use mathlib.Core.Path.{_≡_, refl, sym, ap, _∙_}
+use mathlib.Core.Path.{_≡_, refl, sym, ap, ap₂, _∙_}
 use mathlib.Core.Bool.{Bool, true, false, cond}
 use mathlib.Core.List.{List, []}
 use native.Mathlib.Omega.{arith}
@@ -17,21 +17,14 @@ use Rattle.machine.specs.Limits.{highestLabel, highestSlot}
 use Rattle.image.specs.Refusal.{observerNumber, postNumber, _then_, unless, imageNumber}
 use Rattle.image.proofs.Refusal.{then-stop, then-left, then-right, then-holds, unless-holds, unless-none, unless-given, Listed, listed-not}
 use Rattle.monitor.specs.declared.Answer.{Answer}
-use Rattle.monitor.specs.Calls.{Call, callNumber, refusal, callAnswer, callOutput, CallPromise}
-use Rattle.monitor.specs.Inner.{outputAnswer}
+use Rattle.monitor.specs.Calls.{Call, callNumber, refusal, outputAnswer, callAnswer, callOutput, CallPromise}
 use Rattle.monitor.specs.Claims.{Accepted, Exactly, NumbersByCause, WritesItsAnswer, TellTheSame}
 
--- ---- what is told once b was written where the output has room: r, its length, is compared with the output's
+-- ---- what is told once b was written where the output has room: r, its length, was compared with that of the output afterwards
 
-module _ (b out : List ℕ) (busy : ℕ) {r : ℕ} {after : List ℕ} (size : r ≡ length b) (wrote : after ≡ written b out) where
-  same-size : length after ≡ length out
-  same-size = ap length wrote ∙ length-written b out
-
-  pub told-fits : r ≤ length after → record { number = 0; length = r; busy = busy } ≡ outputAnswer b busy out
-  told-fits h = rw (size, le-leb (length b) (length out) (omega (arith, size, same-size)))
-
-  pub told-13 : length after < r → {told : Answer} → told ≡ refusal 13 → told ≡ outputAnswer b busy out
-  told-13 h e = rw (lt-leb (length b) (length out) (omega (arith, size, same-size))) e
+pub told-written : (b out : List ℕ) (busy : ℕ) {r : ℕ} {after : List ℕ} {told : Answer} → r ≡ length b → after ≡ written b out
+    → told ≡ outputAnswer r busy (length after) → (told ≡ outputAnswer (length b) busy (length out)) × (after ≡ written b out)
+told-written b out busy size wrote told = (told ∙ ap₂ (λ (n m : ℕ). outputAnswer n busy m) size (ap length wrote ∙ length-written b out), wrote)
 
 -- ---- which number was given: the arguments' a, the input's i, or 13 where the test t of the output fails
 
@@ -238,7 +231,7 @@ module _ (c : Call) (out : List ℕ) where
 
     -- what it reads is accepted, and its bytes are written where the output has room for them
     pub call-accepted : c .inputNumber ≡ 0 → {b after : List ℕ} {k : ℕ} {r : Answer} → b ≡ c .bytes → k ≡ c .busy
-        → (r ≡ outputAnswer b k out) × (after ≡ written b out)
+        → (r ≡ outputAnswer (length b) k (length out)) × (after ≡ written b out)
         → CallPromise c out r after
     unfolding callAnswer callOutput callNumber
     call-accepted accepted {b} same counted w =

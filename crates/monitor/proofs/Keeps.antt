@@ -58,6 +58,16 @@ inputOf a = a .0
 abbrev pub numberOf : {A B : Type 0} → A × B → A
 numberOf a = a .0
 
+-- of what is told of bytes that were written: how many, the busy count, and the output's room
+abbrev pub sizeOf : {A B : Type 0} → A × B → A
+sizeOf a = a .0
+
+abbrev pub busyOf : {A B C : Type 0} → A × (B × C) → B
+busyOf a = a .1 .0
+
+abbrev pub roomOf : {A B C D : Type 0} → A × (B × (C × D)) → C
+roomOf a = a .1 .1 .0
+
 -- of a call that is asked for nothing the output stands right behind the image
 abbrev pub soleOutputOf : {A B C : Type 0} → A × (B × C) → B
 soleOutputOf a = a .1 .0

@@ -6,9 +6,9 @@ use denote.Ref.{now, ptr}
 use Rattle.wire.specs.Slices.{offsetBy}
 use Rattle.image.specs.Refusal.{imageNumber}
 use Rattle.image.specs.Part.{recordPart, recordExtent}
-use Rattle.monitor.specs.Calls.{callAnswer, callOutput, refusal, CallPromise, rewriteCall, turnsCall, PostPromise, viewCall}
+use Rattle.monitor.specs.Calls.{callAnswer, callOutput, refusal, outputAnswer, CallPromise, rewriteCall, turnsCall, PostPromise, viewCall}
 use Rattle.monitor.specs.CallList.{Request, askTurns, askPost, HostCall, imageAfter, requestCall, Fits, KeptPromises}
-use Rattle.monitor.proofs.Keeps.{Keeps, imageOf, slotNumberOf, countOf, observerOf, outputOf, labelOf, valueOf, postOutputOf, soleOutputOf, numberOf}
+use Rattle.monitor.proofs.Keeps.{Keeps, imageOf, slotNumberOf, countOf, observerOf, outputOf, labelOf, valueOf, postOutputOf, soleOutputOf, numberOf, sizeOf, busyOf, roomOf}
 use Rattle.monitor.proofs.check as Check
 use Rattle.monitor.proofs.check.Symbol as CheckCode
 use Rattle.monitor.proofs.check.Met as CheckMet
@@ -21,6 +21,9 @@ use Rattle.monitor.proofs.record_extent.Met as RecordExtentMet
 use Rattle.monitor.proofs.refused as Refused
 use Rattle.monitor.proofs.refused.Symbol as RefusedCode
 use Rattle.monitor.proofs.refused.Met as RefusedMet
+use Rattle.monitor.proofs.answered as Answered
+use Rattle.monitor.proofs.answered.Symbol as AnsweredCode
+use Rattle.monitor.proofs.answered.Met as AnsweredMet
 use Rattle.monitor.proofs.rewrite as Rewrite
 use Rattle.monitor.proofs.rewrite.Symbol as RewriteCode
 use Rattle.monitor.proofs.rewrite.Met as RewriteMet
@@ -48,6 +51,9 @@ module _ {M : Type 1} where
 
   pub refused-keeps : Keeps M Refused.ended RefusedCode.routine (λ κs a r e. r ≡ refusal (numberOf a))
   refused-keeps = RefusedMet.met
+
+  pub answered-keeps : Keeps M Answered.ended AnsweredCode.routine (λ κs a r e. r ≡ outputAnswer (sizeOf a) (busyOf a) (roomOf a))
+  answered-keeps = AnsweredMet.met
 
   pub rewrite-keeps : Keeps M Rewrite.ended RewriteCode.routine
       (λ κs a r e. CallPromise (rewriteCall (now (imageOf a))) (now (soleOutputOf a)) r (now (soleOutputOf e)))

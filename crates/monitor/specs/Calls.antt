@@ -5,7 +5,7 @@ use Prim.Native.Nat.{ℕ}
 use mathlib.Core.Path.{_≡_}
 use mathlib.Core.Bool.{Bool, cond, _&&_}
 use mathlib.Core.List.{List}
-use lib.Dec.{eqb}
+use lib.Dec.{leb, eqb}
 use lib.ListN.{length}
 use Rattle.wire.specs.Output.{overwrite}
 use Rattle.machine.specs.Post.{post, delivered}
@@ -43,6 +43,10 @@ callOutput c out = cond (eqb (callNumber c out) 0) (overwrite (c .bytes) out) ou
 -- what the code promises of a call that told this and whose output then held `after`
 abbrev pub CallPromise : Call → List ℕ → Answer → List ℕ → Type 0
 CallPromise c out told after = (told ≡ callAnswer c out) × (after ≡ callOutput c out)
+
+-- how a call ends that only the output can still refuse: 13 where that has less room than the bytes to write need
+abbrev pub outputAnswer : ℕ → ℕ → ℕ → Answer
+outputAnswer size busy room = cond (leb size room) (record { number = 0; length = size; busy = busy }) (refusal 13)
 
 -- ---- rewrite: the image again as it was read
 

@@ -1,6 +1,5 @@
 -- The definitions of the crate `monitor`, a file each.
 pub mod Calls
 pub mod CallList
-pub mod Inner
 pub mod Claims
 pub mod Examples

@@ -3,14 +3,14 @@
 ghost use mathlib.Core.Path.{_≡_};
 ghost use mathlib.Core.Bool.{_&&_};
 ghost use lib.Dec.{eqb};
+ghost use lib.ListN.{length};
 ghost use denote.Ref.{ptr};
 ghost use Rattle.wire.specs.Slices.{offsetBy};
 ghost use Rattle.wire.specs.Inner.{written};
 ghost use Rattle.image.specs.Refusal.{postNumber, imageNumber};
 ghost use Rattle.image.specs.Part.{recordPart, recordExtent};
 ghost use Rattle.snapshot.specs.Writing.{snapshotBytes};
-ghost use Rattle.monitor.specs.Calls.{refusal, CallPromise, rewriteCall, turnsCall, PostPromise, viewCall};
-ghost use Rattle.monitor.specs.Inner.{outputAnswer};
+ghost use Rattle.monitor.specs.Calls.{refusal, outputAnswer, CallPromise, rewriteCall, turnsCall, PostPromise, viewCall};
 
 // What a call tells: the papers' number, 0 where it is accepted; the length of what it wrote; the turns that met a live task.
 pub struct Answer {
@@ -59,6 +59,21 @@ pub fn refused(number: u8) -> Answer
     }
 }
 
+// What a call tells that has written `size` bytes if the output has room for them: 13 where it has not.
+pub fn answered(size: usize, busy: u64, room: usize) -> Answer
+    ensures { λ r. ⌜ r ≡ outputAnswer size busy room ⌝ }
+{
+    if size <= room {
+        Answer {
+            number: 0,
+            length: size,
+            busy: busy,
+        }
+    } else {
+        refused(13)
+    }
+}
+
 // Ends a call whose image is accepted: writes the table's tasks as the observer sees them, or tells 13 where the output has
 // no room for them.
 fn write_answer(
@@ -69,19 +84,11 @@ fn write_answer(
     observer: u8,
     busy: u64,
 ) -> Answer
-    ensures { λ r. ⌜ (r ≡ outputAnswer (snapshotBytes (now (table .entry)) (now (image .entry)) turn observer) busy (now (out .entry)))
+    ensures { λ r. ⌜ (r ≡ outputAnswer (length (snapshotBytes (now (table .entry)) (now (image .entry)) turn observer)) busy (length (now (out .entry))))
         × (now (out .exit) ≡ written (snapshotBytes (now (table .entry)) (now (image .entry)) turn observer) (now (out .entry))) ⌝ }
 {
     let size = snapshot::write(out, table, image, turn, observer);
-    if size <= out.len() {
-        Answer {
-            number: 0,
-            length: size,
-            busy: busy,
-        }
-    } else {
-        refused(13)
-    }
+    answered(size, busy, out.len())
 }
 
 // Writes the view of an image for an observer.

@@ -7,8 +7,7 @@ ghost use Rattle.wire.specs.Inner.{written};
 ghost use Rattle.machine.specs.Limits.{sheetRoom};
 ghost use Rattle.table.specs.Table.{slotsIn};
 ghost use Rattle.table.specs.Change.{taskAt};
-ghost use Rattle.monitor.specs.Calls.{CallPromise};
-ghost use Rattle.monitor.specs.Inner.{outputAnswer};
+ghost use Rattle.monitor.specs.Calls.{outputAnswer, CallPromise};
 ghost use Rattle.sheet.specs.Sheet.{sheetCall, refusalLine, printed};
 ghost use Rattle.sheet.specs.Inner.{shownTaskLine, shownLine, shownLines, shownSheet};
 
@@ -81,21 +80,13 @@ fn put_sheet(out: &mut [u8], table: &table::Table, observer: u8) -> usize
 // the output has no room for it. The sheet is made in a buffer of its own first: only then is its length known.
 fn write_answer(out: &mut [u8], table: &table::Table, observer: u8) -> monitor::Answer
     requires { ⌜ length (shownSheet observer (now table)) ≤ sheetRoom ⌝ }
-    ensures { λ r. ⌜ (r ≡ outputAnswer (shownSheet observer (now (table .entry))) 0 (now (out .entry)))
+    ensures { λ r. ⌜ (r ≡ outputAnswer (length (shownSheet observer (now (table .entry)))) 0 (length (now (out .entry))))
         × (now (out .exit) ≡ written (shownSheet observer (now (table .entry))) (now (out .entry))) ⌝ }
 {
     let mut text: [u8; SHEET_MAX] = [0; SHEET_MAX];
     let length = put_sheet(&mut text, table, observer);
     wire::copy(out, &text[..length]);
-    if length <= out.len() {
-        monitor::Answer {
-            number: 0,
-            length: length,
-            busy: 0,
-        }
-    } else {
-        monitor::refused(13)
-    }
+    monitor::answered(length, 0, out.len())
 }
 
 // Writes the sheet of an image's view for an observer.

@@ -1,14 +1,13 @@
--- `sheet::write_answer` meets its contract: the sheet is copied, or 13 is told where the output is shorter than it.
+-- `sheet::write_answer` meets its contract: the sheet is copied where the output has room for it.
 use borrow.Author.Needs.{needs}
 use Prim.Native.Nat.{ℕ}
 use mathlib.Core.Path.{_≡_, sym, ap, _∙_}
 use mathlib.Core.List.{List}
-use native.Mathlib.Omega.{arith}
 use denote.Ref.{now}
 use lib.ListN.{length, take}
 use Rattle.wire.specs.Inner.{written}
 use Rattle.wire.proofs.Output.{written-front}
-use Rattle.monitor.proofs.Calls.{told-fits, told-13}
+use Rattle.monitor.proofs.Calls.{told-written}
 use Rattle.sheet.specs.Inner.{shownSheet}
 use Rattle.sheet.proofs.write_answer.Statement.{statement}
 use Rattle.sheet.proofs.write_answer.Tie as tie
@@ -27,15 +26,8 @@ returns : tie.Need-returns
 returns c =
     let p = c .before .before .before .before .before .before .before in
     let a = p .before .before .before .args in
-    let after = c .before .before .before .copy .ensures ∙ ap (λ (w : List ℕ). written w (now (a .out))) (front p) in
-    (told-fits (text p) (now (a .out)) 0 (p .put-sheet .ensures .0) after (omega arith), after)
-
-returns-2 : tie.Need-returns-2
-returns-2 c =
-    let p = c .before .before .before .before .before .before .before .before in
-    let a = p .before .before .before .args in
-    let after = c .before .before .before .before .copy .ensures ∙ ap (λ (w : List ℕ). written w (now (a .out))) (front p) in
-    (told-13 (text p) (now (a .out)) 0 (p .put-sheet .ensures .0) after (omega arith) (c .refused .ensures), after)
+    told-written (text p) (now (a .out)) 0 (p .put-sheet .ensures .0)
+    (c .before .before .before .copy .ensures ∙ ap (λ (w : List ℕ). written w (now (a .out))) (front p)) (c .answered .ensures)
 
 pub write-answer-spec : {M : Type 1} → statement M
 write-answer-spec =
@@ -48,6 +40,4 @@ write-answer-spec =
     (λ c. search needs)
     (λ c. search needs)
     (λ c. search needs)
-    returns
-    (λ c. search needs)
-    returns-2)
+    returns)
