@@ -4,9 +4,12 @@ use mathlib.Core.Path.{_≡_, refl}
 use mathlib.Core.Bool.{and-true}
 use mathlib.Core.List.{List, [], _∷_}
 use borrow.Author.Tests.{ne-eqb}
+use Rattle.instruction.specs.declared.Instruction.{Instruction}
+use Rattle.instruction.specs.declared.Instruction.the-variants.{End}
 use Rattle.instruction.specs.declared.Decoded.{Decoded}
 use Rattle.instruction.specs.declared.Decoded.the-variants.{Illegal}
 use Rattle.instruction.specs.Table.{Row, table, byCode, decodeBy, decode}
+use Rattle.instruction.specs.Inner.{formOf}
 
 -- where the code is the number k, the table computes to k's row
 pub decode-at : (d : Decoded) (n code k a b c : ℕ) → code ≡ k → d ≡ byCode (decodeBy n a b c) Illegal table k → d ≡ decode n code a b c
@@ -15,6 +18,10 @@ decode-at d n code k a b c e h = rw e h
 
 -- an operand that may be any byte is not tested in the code
 pub ruleset by-row = (decode-at, and-true)
+
+pub form-at : (i : Instruction) (code k a b c : ℕ) → code ≡ k → i ≡ byCode (λ r. r .form a b c) End table k → i ≡ formOf code a b c
+unfolding formOf
+form-at i code k a b c e h = rw e h
 
 -- what the last arm is given: arm after arm, that the code is not that row's; P is what the arms ahead of them gave
 abbrev pub NoRow : Type 0 → ℕ → List Row → Type 0
@@ -38,3 +45,7 @@ none-by-code f d = no-row f d (Unit {0}) table
 pub decode-none : (n code a b c : ℕ) → NoRow (Unit {0}) code table → Illegal ≡ decode n code a b c
 unfolding decode
 decode-none n code a b c = none-by-code (decodeBy n a b c) Illegal code
+
+pub form-none : (code a b c : ℕ) → NoRow (Unit {0}) code table → End ≡ formOf code a b c
+unfolding formOf
+form-none code a b c = none-by-code (λ r. r .form a b c) End code

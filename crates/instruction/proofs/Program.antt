@@ -1,6 +1,6 @@
 -- Laws of a program's bytes: an instruction within it, past its end, and what a legal program says of each.
 use Prim.Native.Nat.{ℕ, _+_, _*_, _≤_, _<_}
-use mathlib.Core.Path.{_≡_}
+use mathlib.Core.Path.{_≡_, _∙_}
 use mathlib.Core.Bool.{true}
 use mathlib.Core.List.{List}
 use native.Mathlib.Omega.{arith}
@@ -13,8 +13,9 @@ use Rattle.instruction.specs.declared.Instruction.{Instruction}
 use Rattle.instruction.specs.declared.Decoded.the-variants.{Legal, Illegal}
 use Rattle.instruction.specs.Table.{decode}
 use Rattle.instruction.specs.Program.{count, instructionAt, isLegal, allLegal}
+use Rattle.instruction.specs.Inner.{formOf}
 use Rattle.instruction.proofs.Encode.{encode}
-use Rattle.instruction.proofs.Table.{Sound, encode-decode, decode-sound}
+use Rattle.instruction.proofs.Table.{Sound, encode-decode, decode-form, decode-sound}
 
 module _ (program : List ℕ) (pc : ℕ) where
   pub at-within : pc < count program
@@ -47,3 +48,10 @@ module _ (program : List ℕ) (pc : ℕ) where
 pub legal-at : (program : List ℕ) → allLegal program ≡ true → (pc : ℕ) → pc < count program → isLegal (instructionAt program pc) ≡ true
 unfolding allLegal
 legal-at program e = each-at (count program) (λ pc. isLegal (instructionAt program pc)) e
+
+-- which is the form of its code
+pub form-legal : (program : List ℕ) (pc : ℕ) → allLegal program ≡ true → pc < count program
+    → instructionAt program pc
+    ≡ Legal (formOf (getD program (4 * pc) 0) (getD program (4 * pc + 1) 0) (getD program (4 * pc + 2) 0) (getD program (4 * pc + 3) 0))
+form-legal program pc legal h =
+    at-within program pc h ∙ decode-form (count program) _ _ _ _ (rw (at-within program pc h) at (legal-at program legal pc h))

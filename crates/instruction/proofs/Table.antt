@@ -14,6 +14,8 @@ use Rattle.instruction.specs.declared.Instruction.the-variants.{End, Set
 use Rattle.instruction.specs.declared.Decoded.{Decoded}
 use Rattle.instruction.specs.declared.Decoded.the-variants.{Legal, Illegal}
 use Rattle.instruction.specs.Table.{Operand, R, T, L, S, any, blank, admits, Row, table, legalIf, byCode, decodeBy, decode}
+use Rattle.instruction.specs.Program.{isLegal}
+use Rattle.instruction.specs.Inner.{formOf}
 use Rattle.instruction.proofs.Encode.{encode}
 
 -- ---- bytes to an instruction and back
@@ -63,6 +65,25 @@ rows-back (r ∷ rs) w n code a b c i e =
 pub encode-decode : (n code a b c : ℕ) (i : Instruction) → decode n code a b c ≡ Legal i → encode i ≡ code ∷ a ∷ b ∷ c ∷ []
 unfolding decode
 encode-decode = rows-back table written
+
+-- ---- bytes that decode, to the form of their code
+
+row-form : (t : Bool) (i : Instruction) → isLegal (legalIf t i) ≡ true → legalIf t i ≡ Legal i
+row-form true i e = refl
+row-form false i e = cc
+
+rows-form : (rs : List Row) (n code a b c : ℕ) → isLegal (byCode (decodeBy n a b c) Illegal rs code) ≡ true
+    → byCode (decodeBy n a b c) Illegal rs code ≡ Legal (byCode (λ r. r .form a b c) End rs code)
+rows-form [] n code a b c e = cc
+rows-form (r ∷ rs) n code a b c e =
+    let ih = rows-form rs n code a b c in
+    split (eqb code (r .code))
+    (λ t. rw t (row-form (admits (r .a) n a && admits (r .b) n b && admits (r .c) n c) (r .form a b c) (rw t at e)))
+    (λ t. rw t (ih (rw t at e)))
+
+pub decode-form : (n code a b c : ℕ) → isLegal (decode n code a b c) ≡ true → decode n code a b c ≡ Legal (formOf code a b c)
+unfolding decode formOf
+decode-form = rows-form table
 
 -- ---- an instruction to bytes and back
 

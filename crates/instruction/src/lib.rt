@@ -1,7 +1,11 @@
 // Instructions: each code is decoded into one form that carries its own operands.
+ghost use Prim.Native.Nat.{_<_};
 ghost use mathlib.Core.Path.{_≡_};
+ghost use mathlib.Core.Bool.{true};
+ghost use Rattle.instruction.specs.declared.Decoded.the-variants.{Legal};
 ghost use Rattle.instruction.specs.Table.{legalIf, decode};
-ghost use Rattle.instruction.specs.Program.{instructionAt, isLegal, allLegal};
+ghost use Rattle.instruction.specs.Program.{count, instructionAt, isLegal, allLegal};
+ghost use Rattle.instruction.specs.Inner.{formOf};
 
 // Document 01's table, a case to a row; `Identity` is its word self, which the language reserves.
 pub enum Instruction {
@@ -111,4 +115,40 @@ pub fn all_legal(program: &[u8]) -> bool
         }
     }
     true
+}
+
+// The form of a code with its operands, which are not looked at. A program whose check has passed has no code but those of the table.
+fn form(code: u8, a: u8, b: u8, c: u8) -> Instruction
+    ensures { λ r. ⌜ r ≡ formOf code a b c ⌝ }
+{
+    match code {
+        0x00 => Instruction::End,
+        0x01 => Instruction::Set(a, b, c),
+        0x02 => Instruction::Copy(a, b),
+        0x03 => Instruction::Add(a, b, c),
+        0x04 => Instruction::Subtract(a, b, c),
+        0x05 => Instruction::Go(a),
+        0x06 => Instruction::Zero(a, b),
+        0x07 => Instruction::Raise(a),
+        0x08 => Instruction::Send(a, b, c),
+        0x09 => Instruction::Take(a, b),
+        0x0A => Instruction::Poll(a, b, c),
+        0x0B => Instruction::Sandbox(a, b, c),
+        0x0C => Instruction::Identity(a, b),
+        _ => Instruction::End,
+    }
+}
+
+// The instruction at index pc of a program whose check has passed: nothing is tested again.
+pub fn legal_at(program: &[u8], pc: usize) -> Instruction
+    requires { ⌜ (allLegal (now program) ≡ true) × (pc < count (now program)) ⌝ }
+    ensures { λ r. ⌜ instructionAt (now (program .entry)) pc ≡ Legal r ⌝ }
+{
+    let at = 4 * pc;
+    form(
+        program[at],
+        program[at + 1],
+        program[at + 2],
+        program[at + 3],
+    )
 }

@@ -1,5 +1,5 @@
 -- Laws of turns over the table: what a live task does with its turn, one turn, and one turn more.
-use Prim.Native.Nat.{ℕ, _+_, _*_, _%_, _≤_}
+use Prim.Native.Nat.{ℕ, _+_, _*_, _%_, _≤_, _<_}
 use mathlib.Core.Logic.{_≢_}
 use mathlib.Core.Path.{_≡_, refl, sym, ap, subst, _∙_}
 use mathlib.Core.Bool.{true, false, cond}
@@ -8,11 +8,9 @@ use native.Mathlib.Omega.{arith}
 use borrow.Author.Tests.{leb-true, eq-eqb, ne-eqb}
 use lib.Dec.{eqb}
 use lib.ListN.{length, getD, set}
-use lib.Seq.{set-getD}
 use Rattle.label.specs.Label.{flows, join}
 use Rattle.instruction.specs.declared.Instruction.{Instruction}
-use Rattle.instruction.specs.declared.Decoded.{Decoded}
-use Rattle.instruction.specs.declared.Decoded.the-variants.{Legal, Illegal}
+use Rattle.instruction.specs.declared.Decoded.the-variants.{Legal}
 use Rattle.instruction.specs.Program.{count, instructionAt}
 use Rattle.instruction.proofs.Program.{at-within, at-below}
 use Rattle.machine.specs.State.{Slot, unused, used, State, slotAt, hasLiveTask}
@@ -47,9 +45,8 @@ live-here ss s = there (slotAt ss s)
     there (used t) e = refl
 
 -- what was decoded at a place of the program
-pub was-decoded : (program : List ℕ) (pc : ℕ) {d : Decoded} (i : Instruction) → d ≡ instructionAt program pc → d ≡ Legal i → WasDecoded i
-was-decoded program pc i met is =
-    let e = sym met ∙ is in
+pub was-decoded : (program : List ℕ) (pc : ℕ) (i : Instruction) → instructionAt program pc ≡ Legal i → WasDecoded i
+was-decoded program pc i e =
     record {
       n = count program;
       code = getD program (4 * pc) 0;
@@ -71,26 +68,26 @@ module _ (program : List ℕ) (s : ℕ) (ss : List Slot) (live : hasLiveTask (sl
     not-ended = ne-eqb (taskAt ss s .pc) (count program) (λ e. before (place ∙ e))
 
     -- else it carries out one instruction
-    pub act-executes : {d : Decoded} (i : Instruction) → d ≡ instructionAt program pc → d ≡ Legal i
-        → executed i s ss ≡ applied s (outcome flows join program s (taskAt ss s)) ss
+    pub act-executes : (i : Instruction) → instructionAt program pc ≡ Legal i → executed i s ss ≡ applied s (outcome flows join program s (taskAt ss s)) ss
     unfolding outcome executed
-    act-executes i met is = rw (not-ended, ← place, ← met, is)
+    act-executes i is = rw (not-ended, ← place, is)
 
-    pub act-illegal : {d : Decoded} → d ≡ instructionAt program pc → d ≡ Illegal → ss ≡ applied s (outcome flows join program s (taskAt ss s)) ss
-    unfolding outcome
-    act-illegal met is = sym (set-getD ss s unused) ∙ rw (not-ended, ← place, ← met, is, live-here ss s live)
+    module _ (ok : Valid (record { program = program; turnSlot = s; slots = ss })) where
+      own : TaskFacts (count program) s (taskAt ss s)
+      own = rw (live-here ss s live) at (slot-facts (count program) s (slotAt ss s) (ok .tasks s))
 
-    -- a valid state is ready for it
-    pub valid-ready : Valid (record { program = program; turnSlot = s; slots = ss }) → Ready s ss
-    valid-ready ok =
-        let n = count program in
-        let here = live-here ss s live in
-        let own : TaskFacts n s (taskAt ss s) = rw here at (slot-facts n s (slotAt ss s) (ok .tasks s)) in
-        record {
-          here = here;
-          place = omega (arith, own .pc, size-facts (length program) (ok .size) .2);
-          room = valid-room ok;
-        }
+      -- there is one
+      pub place-within : pc < count program
+      place-within = omega (arith, own .pc, before)
+
+      -- and a valid state is ready for it
+      pub valid-ready : Ready s ss
+      valid-ready =
+          record {
+            here = live-here ss s live;
+            place = omega (arith, own .pc, size-facts (length program) (ok .size) .2);
+            room = valid-room ok;
+          }
 
 -- ---- one turn
 

@@ -15,7 +15,6 @@ ghost use Rattle.table.specs.Table.{slotsIn, stateIn};
 ghost use Rattle.table.specs.Change.{taskAt, messageAt, change, withoutMessage};
 ghost use Rattle.turn.specs.Effects.{executed, RoomFor, Ready, WasDecoded, isGiven};
 ghost use Rattle.turn.specs.Answer.{runTold};
-use instruction::Decoded;
 use instruction::Instruction;
 
 // ---- registers and place
@@ -240,11 +239,7 @@ fn act(table: &mut table::Table, program: &[u8], slot: u8)
     if pc == program.len() / 4 {
         table::set_kind(table, slot as usize, 3);
     } else {
-        let decoded = instruction::instruction_at(program, pc);
-        match decoded {
-            Decoded::Legal(i) => execute(table, slot, i),
-            Decoded::Illegal => {}
-        }
+        execute(table, slot, instruction::legal_at(program, pc));
     }
 }
 

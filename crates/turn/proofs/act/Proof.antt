@@ -1,20 +1,24 @@
--- `turn::act` meets its contract: kind 3 at place N, else the instruction that is decoded there.
+-- `turn::act` meets its contract: kind 3 at place N, else the instruction that stands there.
 use mathlib.Core.Path.{_∙_}
 use native.Mathlib.Omega.{arith}
-use borrow.Author.Needs.{needs}
 use denote.Ref.{now}
 use Rattle.table.specs.Table.{slotsIn}
-use Rattle.turn.proofs.Steps.{was-decoded, act-ends, act-executes, act-illegal, valid-ready}
+use Rattle.turn.proofs.Steps.{was-decoded, act-ends, act-executes, place-within, valid-ready}
 use Rattle.turn.proofs.act.Statement.{statement}
 use Rattle.turn.proofs.act.Tie as tie
 
+legal-at-requires : tie.Need-legal-at-requires
+legal-at-requires c κs =
+    let b = c .before .before .before .before .before in
+    let ss = slotsIn (now (b .args .table)) in
+    (b .pre .0 .legal, place-within _ _ ss (b .pre .1) (c .before .before .pc .ensures) (c .before .if1 .left) (b .pre .0))
+
 execute-requires : tie.Need-execute-requires
 execute-requires c κs =
-    let b = c .before .before .before .before .before .before .before .before .before in
-    let pc = c .before .before .before .before .before .before .pc .ensures in
-    let i = c .before .before .decoded .given in (
-      valid-ready _ _ (slotsIn (now (b .args .table))) (b .pre .1) pc (c .before .before .before .before .before .if1 .left) (b .pre .0),
-      was-decoded _ _ (i .0 .0) (c .before .before .before .before .instruction-at .ensures) (i .1),
+    let b = c .before .before .before .before .before .before in
+    let ss = slotsIn (now (b .args .table)) in (
+      valid-ready _ _ ss (b .pre .1) (c .before .before .before .pc .ensures) (c .before .before .if1 .left) (b .pre .0),
+      was-decoded _ _ _ (c .legal-at .ensures),
     )
 
 returns : tie.Need-returns
@@ -25,21 +29,11 @@ returns c =
 
 returns-2 : tie.Need-returns-2
 returns-2 c =
-    let b = c .before .before .before .before .before .before .before .before .before .before in
-    let ss = slotsIn (now (b .args .table)) in
-    let pc = c .before .before .before .before .before .before .before .pc .ensures in
-    let before = c .before .before .before .before .before .before .if1 .left in
-    let met = c .before .before .before .before .before .instruction-at .ensures in
-    let i = c .before .before .before .decoded .given in
-    c .execute .ensures ∙ act-executes _ _ ss (b .pre .1) pc before (i .0 .0) met (i .1)
-
-returns-3 : tie.Need-returns-3
-returns-3 c =
     let b = c .before .before .before .before .before .before .before in
     let ss = slotsIn (now (b .args .table)) in
     let pc = c .before .before .before .before .pc .ensures in
-    let met = c .before .before .instruction-at .ensures in
-    act-illegal _ _ ss (b .pre .1) pc (c .before .before .before .if1 .left) met (c .enum-told .given .1)
+    let before = c .before .before .before .if1 .left in
+    c .execute .ensures ∙ act-executes _ _ ss (b .pre .1) pc before _ (c .before .legal-at .ensures)
 
 pub act-spec : {M : Type 1} → statement M
 act-spec =
@@ -48,10 +42,7 @@ act-spec =
     (λ c κs. tt)
     (λ c. omega arith)
     (λ c κs. tt)
-    (λ c κs. tt)
-    (λ c. search needs)
+    legal-at-requires
     execute-requires
-    (λ c. search needs)
     returns
-    returns-2
-    returns-3)
+    returns-2)
