@@ -117,7 +117,8 @@ pub fn all_legal(program: &[u8]) -> bool
     true
 }
 
-// The form of a code with its operands, which are not looked at. A program whose check has passed has no code but those of the table.
+// The form of a code with its operands, which are not looked at. A program whose check has passed has the table's codes alone, so
+// the last of them takes what is left.
 fn form(code: u8, a: u8, b: u8, c: u8) -> Instruction
     ensures { λ r. ⌜ r ≡ formOf code a b c ⌝ }
 {
@@ -134,8 +135,7 @@ fn form(code: u8, a: u8, b: u8, c: u8) -> Instruction
         0x09 => Instruction::Take(a, b),
         0x0A => Instruction::Poll(a, b, c),
         0x0B => Instruction::Sandbox(a, b, c),
-        0x0C => Instruction::Identity(a, b),
-        _ => Instruction::End,
+        _ => Instruction::Identity(a, b),
     }
 }
 
