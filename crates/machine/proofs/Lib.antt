@@ -10,3 +10,4 @@ pub mod Kept
 pub mod Post
 pub mod Machine
 pub mod Traps
+pub mod Bounds

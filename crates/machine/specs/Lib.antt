@@ -7,3 +7,4 @@ pub mod Post
 pub mod View
 pub mod Valid
 pub mod Machine
+pub mod Inner

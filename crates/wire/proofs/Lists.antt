@@ -278,6 +278,14 @@ module _ {A : Type 0} (p : A → Bool) where
   first-le [] = omega arith
   first-le (x ∷ xs) = let ih = first-le xs in split (p x) (λ e. rw e (omega arith)) (λ e. rw e (omega arith))
 
+  -- it is no element behind one at which p passes
+  pub first-low : (xs : List A) (i : ℕ) (d : A) → i < length xs → p (getD xs i d) ≡ true → firstIndex p xs ≤ i
+  first-low [] i d h e = absurd (not-suc-le-zero h)
+  first-low (x ∷ xs) zero d h e = rw e (omega arith)
+  first-low (x ∷ xs) (suc i) d h e =
+      let ih = first-low xs i d (omega arith) e in
+      split (p x) (λ t. rw t (omega arith)) (λ t. rw t (omega arith))
+
   -- p passes at the element there
   pub first-passes : (xs : List A) (d : A) → firstIndex p xs < length xs → p (getD xs (firstIndex p xs) d) ≡ true
   first-passes [] d = λ h. absurd (not-suc-le-zero h)

@@ -1,0 +1,147 @@
+-- Laws of the slots between which all that is used lies: nothing outside is ever used, and turns of slots outside only go by.
+use Prim.Native.Nat.{ℕ, zero, suc, _+_, _%_, _≤_, _<_}
+use mathlib.Core.Logic.{dite}
+use mathlib.Core.Path.{_≡_, refl, ap, _∙_}
+use mathlib.Core.Bool.{Bool, _&&_, not}
+use mathlib.Core.List.{List}
+use native.Mathlib.Decide.{ℕ-discrete, decLt}
+use native.Mathlib.Numerals.{add-one}
+use native.Mathlib.Omega.{arith}
+use lib.Dec.{eqb}
+use lib.ListN.{set, List·getD-eq-default}
+use Rattle.wire.proofs.Lists.{split, getD-set-at, first-low}
+use Rattle.label.specs.Label.{flows, join}
+use Rattle.label.proofs.Order.{label-order}
+use Rattle.machine.specs.State.{Message, Task, Slot, unused, used, State, slotAt, isUnused, spareOf}
+use Rattle.machine.specs.Effect.{Action, noAction, deliver, spawn, outcome}
+use Rattle.machine.specs.Turn.{hasRoom, enqueue, perform, current, step, turnBy, turnsBy, busyBy}
+use Rattle.machine.specs.Machine.{turns, busy}
+use Rattle.machine.specs.Valid.{Valid}
+use Rattle.machine.specs.Inner.{bottomOf, topBehind, topOf, WithinSlot, Within}
+use Rattle.machine.proofs.Effect.{Allowed, outcome-contained}
+use Rattle.machine.proofs.Spare.{Spares}
+use Rattle.machine.proofs.Valid.{valid-spares}
+
+-- ---- a turn leaves the bounds as they are
+
+module _ (bottom top : ℕ) where
+  within-set : (ss : List Slot) (i : ℕ) (y : Slot) → Within bottom top ss → WithinSlot bottom top i y → Within bottom top (set ss i y)
+  within-set ss i y ok h s = getD-set-at (WithinSlot bottom top s) ss i s y unused (λ e. rw e h) (ok s)
+
+  within-enqueue : (s : ℕ) (m : Message) (x : Slot) → WithinSlot bottom top s x → WithinSlot bottom top s (enqueue m x)
+  within-enqueue s m unused h = tt
+  within-enqueue s m (used t) h = split (eqb (t .kind) 1 && hasRoom (m .label) (t .mailbox)) (λ b. rw b h) (λ b. rw b h)
+
+  -- the task t in slot i becomes t′ and acts
+  within-perform : (mayFlow : ℕ → ℕ → Bool) (ss : List Slot) (i : ℕ) (t t′ : Task) (a : Action) → Allowed mayFlow i t t′ a
+      → (bottom ≤ i) × (i + t .spare < top) → Within bottom top ss → Within bottom top (perform a (set ss i (used t′)))
+  within-perform mayFlow ss i t t′ noAction h b ok = within-set ss i (used t′) ok (b .0, omega (arith, b .1, h))
+  within-perform mayFlow ss i t t′ (deliver j m) h b ok =
+      let own = within-set ss i (used t′) ok (b .0, omega (arith, b .1, h .0)) in
+      within-set (set ss i (used t′)) j (enqueue m (slotAt (set ss i (used t′)) j)) own (within-enqueue j m (slotAt (set ss i (used t′)) j) (own j))
+  within-perform mayFlow ss i t t′ (spawn j c) h b ok =
+      within-set (set ss i (used t′)) j (used c) (within-set ss i (used t′) ok (b .0, omega (arith, b .1, h .1)))
+      (omega (arith, b .0, h .0), omega (arith, b .1, h .0, h .1))
+
+  within-step : (program : List ℕ) (s : ℕ) (ss : List Slot) → Within bottom top ss → (x : Slot) → slotAt ss s ≡ x → Within bottom top (step flows join program s ss x)
+  within-step program s ss ok unused at = ok
+  within-step program s ss ok (used t) at =
+      let o = outcome flows join program s t in
+      let b : (bottom ≤ s) × (s + t .spare < top) = rw at at (ok s) in
+      split (eqb (t .kind) 1)
+      (λ e. rw e (within-perform flows ss s t (o .task) (o .action) (outcome-contained flows join label-order s t program .allowed) b ok))
+      (λ e. rw e ok)
+
+  -- nothing outside is ever used
+  pub turns-within : (n : ℕ) (s : State) → Within bottom top (s .slots) → Within bottom top (turns n s .slots)
+  unfolding turnsBy turnBy
+  turns-within zero s ok = ok
+  turns-within (suc n) s ok =
+      let before = turns n s in
+      within-step (before .program) (before .turnSlot) (before .slots) (turns-within n s ok) (slotAt (before .slots) (before .turnSlot)) refl
+
+  outside : (s : ℕ) (x : Slot) → WithinSlot bottom top s x → (bottom ≤ s → s < top → ⊥) → x ≡ unused
+  outside s unused h out = refl
+  outside s (used t) h out = absurd (out (h .0) (omega (arith, h .1)))
+
+  pub unused-below : (ss : List Slot) → Within bottom top ss → (s : ℕ) → s < bottom → slotAt ss s ≡ unused
+  unused-below ss ok s l = outside s (slotAt ss s) (ok s) (λ a b. omega arith)
+
+  pub unused-above : (ss : List Slot) → Within bottom top ss → (s : ℕ) → top ≤ s → slotAt ss s ≡ unused
+  unused-above ss ok s l = outside s (slotAt ss s) (ok s) (λ a b. omega arith)
+
+-- ---- turns of unused slots
+
+-- n of them, of a state that is there: only the turn slot goes on, and none is busy
+module _ (s : State) (low : s .turnSlot ≤ 15) where
+  abbrev after : ℕ → State
+  after n = record { program = s .program; turnSlot = (s .turnSlot + n) % 16; slots = s .slots }
+
+  abbrev AllUnused : ℕ → Type 0
+  AllUnused n = (j : ℕ) → s .turnSlot ≤ j → j < s .turnSlot + n → slotAt (s .slots) j ≡ unused
+
+  next-unused : (n : ℕ) → s .turnSlot + n < 16 → slotAt (s .slots) (s .turnSlot + n) ≡ unused → (after (suc n) ≡ turnBy flows join (after n)) × (current (after n) ≡ unused)
+  unfolding turnBy
+  next-unused n fits none =
+      let here : (s .turnSlot + n) % 16 ≡ s .turnSlot + n = omega arith in
+      let next : (s .turnSlot + suc n) % 16 ≡ (s .turnSlot + n + 1) % 16 = omega arith in
+      rw (next, here, none) (refl, refl)
+
+  pub turns-unused : (n : ℕ) → s .turnSlot + n ≤ 16 → AllUnused n → (after n ≡ turns n s) × (busy n s ≡ 0)
+  unfolding turnsBy busyBy
+  turns-unused zero fits none = let here : (s .turnSlot + 0) % 16 ≡ s .turnSlot = omega arith in (rw here, refl)
+  turns-unused (suc n) fits none =
+      let ih = turns-unused n (omega arith) (λ j a b. none j a (omega arith)) in
+      let more = next-unused n (omega arith) (none (s .turnSlot + n) (omega arith) (omega arith)) in
+      (more .0 ∙ ap (turnBy flows join) (ih .0), rw (← ih .0, more .1, ih .1))
+
+-- ---- the bounds, slot by slot
+
+pub top-none : (ss : List Slot) → 0 ≡ topOf 0 ss
+unfolding topOf
+top-none ss = refl
+
+pub top-next : (n : ℕ) (ss : List Slot) {before : ℕ} → before ≡ topOf n ss → topBehind n before (slotAt ss n) ≡ topOf (n + 1) ss
+unfolding topOf
+top-next n ss e = rw (add-one, e)
+
+-- ---- the bounds of a valid state
+
+module _ (s : State) (ok : Valid s) where
+  abbrev ss : List Slot
+  ss = s .slots
+
+  spares : Spares ss
+  spares = valid-spares s ok
+
+  -- a slot that is used is one of the sixteen
+  inside : (j : ℕ) (t : Task) → slotAt ss j ≡ used t → j < 16
+  inside j t e =
+      dite (decLt j 16) (λ l. l)
+      (λ l. let z : _≡_ {A = ℕ} 0 1 = cc (List·getD-eq-default ss unused {n = j} (omega (arith, spares .slotCount))) in absurd (omega arith))
+
+  pub valid-sixteen : Within 0 16 ss
+  valid-sixteen j = each (slotAt ss j) refl
+    where
+      each : (x : Slot) → slotAt ss j ≡ x → WithinSlot 0 16 j x
+      each unused e = tt
+      each (used t) e = (omega arith, omega (arith, spares .fits j (omega (arith, inside j t e)), ap spareOf e))
+
+  -- no used slot lies in another's spare, so the last one's is behind all of them
+  below-top : (j : ℕ) (t : Task) → slotAt ss j ≡ used t → (n : ℕ) → j < n → j + t .spare < topOf n ss
+  unfolding topOf
+  below-top j t e zero h = absurd (omega arith)
+  below-top j t e (suc n) h = dite (ℕ-discrete j n) (λ q. rw (← q, e) (omega arith)) (λ q. other (slotAt ss n) refl (omega arith) (below-top j t e n (omega arith)))
+    where
+      other : (x : Slot) → slotAt ss n ≡ x → j < n → j + t .spare < topOf n ss → j + t .spare < topBehind n (topOf n ss) x
+      other unused f l ih = ih
+      other (used u) f l ih =
+          dite (decLt (j + t .spare) n) (λ g. omega arith)
+          (λ g. let z : _≡_ {A = ℕ} 0 1 = cc (spares .free j n l (omega (arith, ap spareOf e))) in absurd (omega arith))
+
+  pub valid-within : Within (bottomOf ss) (topOf 16 ss) ss
+  valid-within j = each (slotAt ss j) refl
+    where
+      each : (x : Slot) → slotAt ss j ≡ x → WithinSlot (bottomOf ss) (topOf 16 ss) j x
+      each unused e = tt
+      each (used t) e = (first-low (λ x. not (isUnused x)) ss j unused (omega (arith, inside j t e, spares .slotCount)) (rw e), below-top j t e 16 (inside j t e))
