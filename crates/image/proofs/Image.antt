@@ -21,7 +21,7 @@ use Rattle.machine.specs.State.{State, slotAt}
 use Rattle.machine.specs.Valid.{isProgramLength, sparesUnused, ValidSlot, Valid}
 use Rattle.machine.proofs.Rules.{size-facts}
 use Rattle.image.specs.Refusal.{_then_, unless, short, versionNumber, programNumber, turnSlotNumber, slotsNumber, tailNumber, estateNumber, imageNumber}
-use Rattle.image.specs.Record.{recordBytes}
+use Rattle.image.specs.Record.{slotOf, recordBytes}
 use Rattle.image.specs.Image.{programLength, turnSlotAt, slotsAt, programOf, turnSlotOf, slotsPart, recordLength, recordOf, span, skip, slotsOf, stateOf}
 use Rattle.image.specs.Image.{imageBytes}
 use Rattle.image.specs.Inner.{fromSlot}
@@ -268,11 +268,15 @@ unfolding recordStart
 record-at-start b s = sym (drop-drop 2 (slotsAt b + span s (slotsPart b)) b) ∙ ap (drop 2) (slots-behind b s)
 
 -- it is what the slot's task is written as
+pub record-accepted : (b : List ℕ) (s : ℕ) → Bytes b → imageNumber b ≡ 0 → s ≤ highestSlot
+    → recordBytes (slotOf (recordOf (skip s (slotsPart b)))) ≡ recordOf (skip s (slotsPart b))
+unfolding slotsPart
+record-accepted b s h e l = record-at 16 s 0 (count (programOf b)) (slotsPart b) (every-drop IsByte (slotsAt b) b h) (in-order b e .slots) (omega arith)
+
 pub record-part : (b : List ℕ) (s : ℕ) → Bytes b → imageNumber b ≡ 0 → s ≤ highestSlot → recordPart b s ≡ recordBytes (slotAt (stateOf b .slots) s)
-unfolding recordPart stateOf slotsPart
+unfolding recordPart stateOf
 record-part b s h e l =
-    rw (le-leb s highestSlot l, e, record-at-start b s, slot-at 16 s (slotsPart b) (omega arith))
-    (sym (record-at 16 s 0 (count (programOf b)) (slotsPart b) (every-drop IsByte (slotsAt b) b h) (in-order b e .slots) (omega arith)))
+    rw (le-leb s highestSlot l, e, record-at-start b s, slot-at 16 s (slotsPart b) (omega arith)) (sym (record-accepted b s h e l))
 
 -- a slot above 15 has none, nor has a refused image
 pub record-above : (b : List ℕ) (s : ℕ) → (s ≤ highestSlot → ⊥) → recordPart b s ≡ []

@@ -1,12 +1,12 @@
 // The observer sheet as text: the call that writes it, and what the program `slotsheet` prints.
-ghost use Prim.Native.Nat.{_≤_};
+ghost use Prim.Native.Nat.{_≤_, _<_};
 ghost use mathlib.Core.Path.{_≡_};
 ghost use lib.ListN.{length};
 ghost use Rattle.wire.specs.Output.{overwrite};
 ghost use Rattle.wire.specs.Inner.{written};
 ghost use Rattle.machine.specs.Limits.{sheetRoom};
 ghost use Rattle.table.specs.Table.{slotsIn};
-ghost use Rattle.table.specs.Change.{taskAt};
+ghost use Rattle.table.specs.Change.{taskAt, Used};
 ghost use Rattle.monitor.specs.Calls.{outputAnswer, CallPromise};
 ghost use Rattle.sheet.specs.Sheet.{sheetCall, refusalLine, printed};
 ghost use Rattle.sheet.specs.Inner.{shownTaskLine, shownLine, shownLines, shownSheet};
@@ -21,7 +21,8 @@ pub const INPUT_MAX: usize = 8192;
 
 // Writes the line of a task that the observer sees: how many bytes.
 fn put_task_line(out: &mut [u8], table: &table::Table, slot: u8, observer: u8) -> usize
-    requires { ⌜ length (shownTaskLine observer slot (taskAt (slotsIn (now table)) slot)) ≤ length (now out) ⌝ }
+    requires { ⌜ Used slot (slotsIn (now table))
+        × (length (shownTaskLine observer slot (taskAt (slotsIn (now table)) slot)) ≤ length (now out)) ⌝ }
     ensures { λ r. ⌜ (r ≡ length (shownTaskLine observer slot (taskAt (slotsIn (now (table .entry))) slot)))
         × (now (out .exit) ≡ overwrite (shownTaskLine observer slot (taskAt (slotsIn (now (table .entry))) slot)) (now (out .entry))) ⌝ }
 {
@@ -37,7 +38,7 @@ fn put_task_line(out: &mut [u8], table: &table::Table, slot: u8, observer: u8) -
 
 // Writes the line of a slot, where the observer sees a task in it: how many bytes.
 fn put_line(out: &mut [u8], table: &table::Table, slot: u8, observer: u8) -> usize
-    requires { ⌜ length (shownLine observer (slotsIn (now table)) slot) ≤ length (now out) ⌝ }
+    requires { ⌜ (slot < 16) × (length (shownLine observer (slotsIn (now table)) slot) ≤ length (now out)) ⌝ }
     ensures { λ r. ⌜ (r ≡ length (shownLine observer (slotsIn (now (table .entry))) slot))
         × (now (out .exit) ≡ overwrite (shownLine observer (slotsIn (now (table .entry))) slot) (now (out .entry))) ⌝ }
 {

@@ -1,12 +1,12 @@
 -- The steps of loading make the task of each record and the slots of the image, and an accepted image can be loaded.
-use Prim.Native.Nat.{ℕ, zero, suc, _+_, _*_, _/_, _≤_, _<_}
+use Prim.Native.Nat.{ℕ, zero, suc, _+_, _-_, _*_, _/_, _≤_, _<_}
 use mathlib.Core.Path.{_≡_, refl, sym, ap, _∙_}
 use mathlib.Core.List.{List, [], _∷_, _++_, append-nil}
 use native.Mathlib.Numerals.{add-one}
 use native.Mathlib.Omega.{arith}
 use borrow.Author.Tests.{ne-eqb}
-use lib.ListN.{length, getD, take, drop, set, length-append}
-use lib.Seq.{take-all, drop-cons, set-at, append-snoc}
+use lib.ListN.{length, getD, take, drop, set, length-append, length-drop}
+use lib.Seq.{take-all, getD-drop, drop-drop, drop-cons, set-at, getD-set-same, append-snoc}
 use Rattle.wire.specs.Lists.{Bytes}
 use Rattle.wire.specs.Numbers.{decodeNumber}
 use Rattle.wire.proofs.Output.{copy-next}
@@ -17,16 +17,20 @@ use Rattle.machine.proofs.Mailbox.{mailbox-64}
 use Rattle.wire.specs.Items.{decodeItems}
 use Rattle.wire.proofs.Items.{length-decode, decode-more}
 use Rattle.machine.specs.State.{Message, Task, Slot, unused, used, slotAt, withRegister, withRegisters, withMailbox}
-use Rattle.image.specs.Record.{messageOf, taskOf, slotOf}
+use Rattle.image.specs.Record.{messageOf, taskOf, slotOf, taskBytes}
 use Rattle.image.specs.Image.{recordOf, skip, slotsOf, slotsPart, programOf, stateOf}
 use Rattle.image.specs.Refusal.{imageNumber}
 use Rattle.image.proofs.Slots.{length-slotsOf, slot-at}
-use Rattle.image.proofs.Image.{accepted-valid}
-use Rattle.image.proofs.Records.{slot-some}
+use Rattle.image.proofs.Image.{accepted-valid, record-accepted}
+use Rattle.image.proofs.Records.{slot-some, task-length}
 use Rattle.table.specs.Table.{held}
-use Rattle.table.specs.Change.{change, withMessage, newTask}
-use Rattle.table.proofs.Change.{change-none, change-set, change-change}
+use Rattle.table.specs.Change.{taskAt, Used, changeSlot, change, withMessage, newTask}
+use Rattle.table.proofs.Change.{change-none, change-set, change-at, change-change}
 use Rattle.snapshot.specs.Loading.{Loadable, LoadableSlots, loaded, registersSet, messagesAdded}
+
+-- what is lent from index k on
+pub from-on : (k : ℕ) (xs : List ℕ) → take (length xs - k) (drop k xs) ≡ drop k xs
+from-on k xs = take-all (length xs - k) (drop k xs) (rw length-drop (omega arith))
 
 -- ---- one register or message after another
 
@@ -48,6 +52,13 @@ pub messages-next : (s k : ℕ) (m : Message) (b : List ℕ) (ss : List Slot) �
 unfolding messagesAdded
 messages-next s k m b ss e = rw (add-one, e) (change-change s (messagesAdded k b) (withMessage (messageOf (drop (6 * k) b))) ss)
 
+-- message i by its bytes
+pub message-at : (i : ℕ) (b : List ℕ) {label sender value : ℕ} → label ≡ getD b (6 * i) 0 → sender ≡ getD b (6 * i + 1) 0 → value ≡ decodeNumber 4 (drop (6 * i + 2) b)
+    → record { label = label; sender = sender; value = value } ≡ messageOf (drop (6 * i) b)
+message-at i b l s v =
+    let first : 6 * i + 0 ≡ 6 * i = omega arith in
+    rw (l, s, v, getD-drop (6 * i) b 0 0, getD-drop (6 * i) b 1 0, drop-drop 2 (6 * i) b, first)
+
 -- ---- the task of a record
 
 registers-are : (k : ℕ) (b : List ℕ) (t : Task) → k ≤ length (t .registers)
@@ -63,15 +74,32 @@ registers-are (suc k) b t h =
     (sym (append-snoc front x behind) ∙ ap (λ (xs : List ℕ). xs ++ behind) (sym (decode-more 4 (decodeNumber 4) k b))) in
     ap (withRegister k x) (registers-are k b t (omega arith)) ∙ ap (λ (rs : List ℕ). withRegisters rs t) stored
 
-messages-are : (k : ℕ) (b : List ℕ) (t : Task) → k ≤ 64 → t .mailbox ≡ [] → messagesAdded k b t ≡ withMailbox (decodeItems 6 messageOf k b) t
+messages-are : (k : ℕ) (b : List ℕ) (t : Task) → t .mailbox ≡ [] → messagesAdded k b t ≡ withMailbox (decodeItems 6 messageOf k b) t
 unfolding messagesAdded decodeItems
-messages-are zero b t h e = λ i. record { kind = t .kind; label = t .label; spare = t .spare; pc = t .pc; registers = t .registers; mailbox = e i }
-messages-are (suc k) b t h e =
+messages-are zero b t e = λ i. record { kind = t .kind; label = t .label; spare = t .spare; pc = t .pc; registers = t .registers; mailbox = e i }
+messages-are (suc k) b t e =
     let m = messageOf (drop (6 * k) b) in
-    let front = decodeItems 6 messageOf k b in
-    let fits : length (front ++ (m ∷ [])) ≤ 64 = rw (length-append, length-decode 6 messageOf k b) (omega arith) in
-    ap (withMessage m) (messages-are k b t (omega arith) e)
-    ∙ ap (λ (ms : List Message). withMailbox ms t) (take-all 64 (front ++ (m ∷ [])) fits ∙ sym (decode-more 6 messageOf k b))
+    ap (withMessage m) (messages-are k b t e) ∙ ap (λ (ms : List Message). withMailbox ms t) (sym (decode-more 6 messageOf k b))
+
+-- registers that are set leave the mailbox, and messages that are added are so many more
+registers-mailbox : (k : ℕ) (b : List ℕ) (t : Task) → registersSet k b t .mailbox ≡ t .mailbox
+unfolding registersSet
+registers-mailbox zero b t = refl
+registers-mailbox (suc k) b t = registers-mailbox k b t
+
+messages-length : (k : ℕ) (b : List ℕ) (t : Task) → length (messagesAdded k b t .mailbox) ≡ length (t .mailbox) + k
+unfolding messagesAdded
+messages-length zero b t = omega arith
+messages-length (suc k) b t =
+    let ih = messages-length k b t in
+    rw length-append (omega (arith, ih))
+
+-- a used slot stays so, and its mailbox has those messages
+pub messages-here : (s k : ℕ) (b : List ℕ) (ss : List Slot) → Used s ss
+    → Used s (change s (messagesAdded k b) ss) × (length (taskAt (change s (messagesAdded k b) ss) s .mailbox) ≡ length (taskAt ss s .mailbox) + k)
+messages-here s k b ss here =
+    let x : slotAt (change s (messagesAdded k b) ss) s ≡ used (messagesAdded k b (taskAt ss s)) = change-at s (messagesAdded k b) ss ∙ ap (changeSlot (messagesAdded k b)) here in
+    rw x (refl, messages-length k b (taskAt ss s))
 
 module _ (r : List ℕ) (ok : Loadable r) where
   -- the task as it is put, with registers 0 and no messages
@@ -86,13 +114,23 @@ module _ (r : List ℕ) (ok : Loadable r) where
       let rs = decodeItems 4 (decodeNumber 4) 8 (drop 5 r) in
       let registers : registersSet 8 (drop 5 r) new ≡ withRegisters rs new
       = registers-are 8 (drop 5 r) new (omega arith) ∙ ap (λ (xs : List ℕ). withRegisters xs new) (append-nil rs) in
-      ap addMessages registers ∙ messages-are (length (drop 37 r) / 6) (drop 37 r) (withRegisters rs new) (ok .messages) refl
+      ap addMessages registers ∙ messages-are (length (drop 37 r) / 6) (drop 37 r) (withRegisters rs new) refl
+
+  new-held : held new ≡ used new
+  new-held = rw (ne-eqb (getD r 0 0) 0 (λ e. omega (arith, ok .kind)))
+
+  -- the new task with its registers is there, and has no messages
+  pub registers-here : (s : ℕ) (ss : List Slot) → s < length ss
+      → let after = change s (registersSet 8 (drop 5 r)) (set ss s (held new)) in Used s after × (length (taskAt after s .mailbox) ≡ 0)
+  registers-here s ss l =
+      let x : slotAt (change s (registersSet 8 (drop 5 r)) (set ss s (held new))) s ≡ used (registersSet 8 (drop 5 r) new)
+      = change-at s (registersSet 8 (drop 5 r)) (set ss s (held new)) ∙ ap (changeSlot (registersSet 8 (drop 5 r))) (getD-set-same ss s (held new) unused l ∙ new-held) in
+      rw x (refl, ap length (registers-mailbox 8 (drop 5 r) new))
 
   -- a new task, its registers and its messages
   pub task-loaded : (s : ℕ) (ss : List Slot) → change s addMessages (change s (registersSet 8 (drop 5 r)) (set ss s (held new))) ≡ set ss s (used (taskOf r))
   task-loaded s ss =
-      let h : held new ≡ used new = rw (ne-eqb (getD r 0 0) 0 (λ e. omega (arith, ok .kind))) in
-      rw (h, change-set s (registersSet 8 (drop 5 r)) ss (used new), change-set s addMessages ss (used (registersSet 8 (drop 5 r) new)), task-is)
+      rw (new-held, change-set s (registersSet 8 (drop 5 r)) ss (used new), change-set s addMessages ss (used (registersSet 8 (drop 5 r) new)), task-is)
 
 -- ---- the slots
 
@@ -120,4 +158,6 @@ module _ (b : List ℕ) where
       let x : slotAt (slotsOf 16 (slotsPart b)) i ≡ used (taskOf r) = slot-at 16 i (slotsPart b) l ∙ slot-some r (λ z. omega arith) in
       let valid : ValidTask (count (programOf b)) i (taskOf r) = rw x at (accepted-valid b h e .tasks i) in
       let facts = task-facts (count (programOf b)) i (taskOf r) valid in
-      record { kind = facts .kind-low; messages = rw length-decode at (mailbox-64 (taskOf r .mailbox) (facts .mailbox)) }
+      let back : taskBytes (taskOf r) ≡ r = rw (slot-some r (λ z. omega arith)) at (record-accepted b i h e (omega arith)) in
+      let long : 37 ≤ length r = omega (arith, task-length (count (programOf b)) i (taskOf r) valid, ap length back) in
+      record { long = long; kind = facts .kind-low; messages = rw length-decode at (mailbox-64 (taskOf r .mailbox) (facts .mailbox)) }

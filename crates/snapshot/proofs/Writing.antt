@@ -20,7 +20,7 @@ use Rattle.image.specs.Record.{messageBytes}
 use Rattle.image.specs.Image.{programOf, slotBytes, imageBytes}
 use Rattle.image.proofs.Records.{length-registers}
 use Rattle.table.specs.Table.{slotsIn}
-use Rattle.table.specs.Change.{taskOr, taskAt}
+use Rattle.table.specs.Change.{taskOr, taskAt, Used}
 use Rattle.table.proofs.Slots.{used-registers}
 use Rattle.snapshot.specs.Writing.{snapshotBytes, headBytes, shownSlot, shownTask, shownMessage, isShown}
 
@@ -70,16 +70,21 @@ module _ (v : ℕ) (t : Task) (eight : length (t .registers) ≡ 8) where
 -- ---- a slot
 
 -- the test in the code
-pub shown-is : (x : Slot) (kind label v : ℕ) → kind ≡ taskOr x .kind → label ≡ taskOr x .label → ((t : Task) → x ≡ used t → t .kind ≢ 0)
-    → (not (eqb kind 0) && flows label v) ≡ isShown v x
+pub shown-flows : (v : ℕ) (ss : List Slot) (s : ℕ) → Used s ss → flows (taskAt ss s .label) v ≡ isShown v (slotAt ss s)
 unfolding isShown
-shown-is unused kind label v k l h = rw k
-shown-is (used t) kind label v k l h = rw (k, l, ne-eqb (t .kind) 0 (h t refl))
+shown-flows v ss s here = rw here
 
-shown-used : (v : ℕ) (x : Slot) → isShown v x ≡ true → x ≡ used (taskOr x)
+pub shown-none : (v : ℕ) (x : Slot) → x ≡ unused → false ≡ isShown v x
 unfolding isShown
-shown-used v unused e = cc
-shown-used v (used t) e = refl
+shown-none v x e = rw e
+
+pub shown-used : (v : ℕ) (ss : List Slot) (s : ℕ) → isShown v (slotAt ss s) ≡ true → Used s ss
+unfolding isShown
+shown-used v ss s = there (slotAt ss s)
+  where
+    there : (x : Slot) → isShown v x ≡ true → x ≡ used (taskOr x)
+    there unused e = cc
+    there (used t) e = refl
 
 -- what it says of the slot in the view
 pub viewSlot-shown : (v : ℕ) (x : Slot) → isShown v x ≡ true → viewSlot (λ l. flows l v) x ≡ used (viewTask (λ l. flows l v) (taskOr x))
@@ -99,7 +104,7 @@ slot-shown v x e = ap slotBytes (viewSlot-shown v x e)
 -- a slot in the table that the observer sees
 module _ (words : List ℕ) (s v : ℕ) (shown : isShown v (slotAt (slotsIn words) s) ≡ true) where
   pub shown-registers : length (taskAt (slotsIn words) s .registers) ≡ 8
-  shown-registers = used-registers words s (taskAt (slotsIn words) s) (shown-used v (slotAt (slotsIn words) s) shown)
+  shown-registers = used-registers words s (taskAt (slotsIn words) s) (shown-used v (slotsIn words) s shown)
 
   pub shown-length : length (shownSlot v (slotAt (slotsIn words) s)) ≡ 39 + length (encodeItems (shownMessage v) (taskAt (slotsIn words) s .mailbox))
   shown-length = ap length (slot-shown v (slotAt (slotsIn words) s) shown) ∙ task-length v (taskAt (slotsIn words) s) shown-registers

@@ -26,8 +26,9 @@ unfoldable pub messagesAdded : ℕ → List ℕ → Task → Task
 messagesAdded zero b t = t
 messagesAdded (suc k) b t = withMessage (messageOf (drop (messageSize * k) b)) (messagesAdded k b t)
 
--- a record whose task the table can hold: a kind, and no more messages than a mailbox has room for
+-- a record whose task the table can hold: all fields, a kind, and no more messages than a mailbox has room for
 pub record Loadable (r : List ℕ) : Type 0 where
+  pub long : mailboxAt ≤ length r
   pub kind : 1 ≤ getD r kindAt 0
   pub messages : length (drop mailboxAt r) / messageSize ≤ mailboxRoom
 

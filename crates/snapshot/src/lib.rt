@@ -1,5 +1,5 @@
 // Snapshots: an image's tasks loaded into the table, and the table written as an image for an observer.
-ghost use Prim.Native.Nat.{_+_, _/_, _≤_};
+ghost use Prim.Native.Nat.{_+_, _/_, _≤_, _<_};
 ghost use mathlib.Core.Path.{_≡_};
 ghost use mathlib.Core.List.{_∷_, _++_};
 ghost use lib.ListN.{length, set};
@@ -13,8 +13,8 @@ ghost use Rattle.machine.specs.View.{viewTask};
 ghost use Rattle.image.specs.Record.{taskOf, slotOf, messageBytes, messageSize};
 ghost use Rattle.image.specs.Image.{slotsOf};
 ghost use Rattle.image.specs.Refusal.{imageNumber};
-ghost use Rattle.table.specs.Table.{slotsIn};
-ghost use Rattle.table.specs.Change.{taskAt, messageAt, change};
+ghost use Rattle.table.specs.Table.{mailboxRoom, slotsIn};
+ghost use Rattle.table.specs.Change.{taskAt, Used, messageAt, change};
 ghost use Rattle.snapshot.specs.Loading.{Loadable, LoadableSlot, LoadableSlots, loaded, registersSet, messagesAdded};
 ghost use Rattle.snapshot.specs.Writing.{snapshotBytes, headBytes, shownSlot, shownTask, shownMessage, isShown};
 
@@ -22,11 +22,12 @@ ghost use Rattle.snapshot.specs.Writing.{snapshotBytes, headBytes, shown
 
 // Sets the eight registers of the task in a slot.
 fn load_registers(table: &mut table::Table, slot: usize, registers: &[u8])
+    requires { ⌜ (slot < 16) × (32 ≤ length (now registers)) ⌝ }
     ensures { λ _. ⌜ slotsIn (now (table .exit)) ≡ change slot (registersSet 8 (now (registers .entry))) (slotsIn (now (table .entry))) ⌝ }
 {
     let mut a: usize = 0;
     while a < 8 {
-        let value = wire::decode_u32(wire::drop(registers, 4 * a));
+        let value = wire::decode_u32(&registers[4 * a..]);
         table::set_register(table, slot, a, value);
         a += 1;
     }
@@ -34,19 +35,21 @@ fn load_registers(table: &mut table::Table, slot: usize, registers: &[u8])
 
 // Adds the messages to the mailbox of the task in a slot.
 fn load_mailbox(table: &mut table::Table, slot: usize, mailbox: &[u8])
+    requires { ⌜ Used slot (slotsIn (now table))
+        × (length (taskAt (slotsIn (now table)) slot .mailbox) + length (now mailbox) / messageSize ≤ mailboxRoom) ⌝ }
     ensures { λ _. ⌜ slotsIn (now (table .exit))
         ≡ change slot (messagesAdded (length (now (mailbox .entry)) / messageSize) (now (mailbox .entry))) (slotsIn (now (table .entry))) ⌝ }
 {
     let count = mailbox.len() / image::MESSAGE_SIZE;
     let mut i: usize = 0;
     while i < count {
-        let message = wire::drop(mailbox, image::MESSAGE_SIZE * i);
-        let value = wire::decode_u32(wire::drop(message, 2));
+        let at = image::MESSAGE_SIZE * i;
+        let value = wire::decode_u32(&mailbox[at + 2..]);
         table::append(
             table,
             slot,
-            wire::byte_at(message, 0),
-            wire::byte_at(message, 1),
+            wire::byte(mailbox, at),
+            wire::byte(mailbox, at + 1),
             value,
         );
         i += 1;
@@ -55,25 +58,25 @@ fn load_mailbox(table: &mut table::Table, slot: usize, mailbox: &[u8])
 
 // Puts the task of a record into a slot.
 fn load_task(table: &mut table::Table, slot: usize, bytes: &[u8])
-    requires { ⌜ Loadable (now bytes) ⌝ }
+    requires { ⌜ (slot < 16) × Loadable (now bytes) ⌝ }
     ensures { λ _. ⌜ slotsIn (now (table .exit)) ≡ set (slotsIn (now (table .entry))) slot (used (taskOf (now (bytes .entry)))) ⌝ }
 {
-    let pc = wire::decode_u16(wire::drop(bytes, image::PC_AT)) as u32;
+    let pc = wire::decode_u16(&bytes[image::PC_AT..]) as u32;
     table::put_task(
         table,
         slot,
-        wire::byte_at(bytes, image::KIND_AT),
-        wire::byte_at(bytes, image::LABEL_AT),
-        wire::byte_at(bytes, image::SPARE_AT),
+        wire::byte(bytes, image::KIND_AT),
+        wire::byte(bytes, image::LABEL_AT),
+        wire::byte(bytes, image::SPARE_AT),
         pc,
     );
-    load_registers(table, slot, wire::drop(bytes, image::REGISTERS_AT));
-    load_mailbox(table, slot, wire::drop(bytes, image::MAILBOX_AT));
+    load_registers(table, slot, &bytes[image::REGISTERS_AT..]);
+    load_mailbox(table, slot, &bytes[image::MAILBOX_AT..]);
 }
 
 // Puts what a record holds into a slot: no bytes are an unused slot.
 fn load_slot(table: &mut table::Table, slot: usize, bytes: &[u8])
-    requires { ⌜ LoadableSlot (now bytes) ⌝ }
+    requires { ⌜ (slot < 16) × LoadableSlot (now bytes) ⌝ }
     ensures { λ _. ⌜ slotsIn (now (table .exit)) ≡ set (slotsIn (now (table .entry))) slot (slotOf (now (bytes .entry))) ⌝ }
 {
     if bytes.len() == 0 {
@@ -113,13 +116,19 @@ pub fn load(table: &mut table::Table, image: &[u8]) -> u8
 
 // Whether the observer sees a task in a slot.
 pub fn is_shown(table: &table::Table, slot: usize, observer: u8) -> bool
+    requires { ⌜ slot < 16 ⌝ }
     ensures { λ r. ⌜ r ≡ isShown observer (slotAt (slotsIn (now (table .entry))) slot) ⌝ }
 {
-    (table::kind(table, slot) != 0) & label::flows(table::label(table, slot), observer)
+    if table::kind(table, slot) > 0 {
+        label::flows(table::label(table, slot), observer)
+    } else {
+        false
+    }
 }
 
 // How many messages of a mailbox the observer sees.
 pub fn mail_shown(table: &table::Table, slot: usize, observer: u8) -> usize
+    requires { ⌜ Used slot (slotsIn (now table)) ⌝ }
     ensures { λ r. ⌜ (r ≡ length (viewTask (λ l. flows l observer) (taskAt (slotsIn (now (table .entry))) slot) .mailbox)) × (r ≤ 64) ⌝ }
 {
     let count = table::mailbox_length(table, slot);
@@ -141,6 +150,7 @@ const MAILBOX_FROM: usize = 2 + image::MAILBOX_AT;
 
 // How many bytes of a mailbox.
 fn mailbox_size(table: &table::Table, slot: usize, observer: u8) -> usize
+    requires { ⌜ Used slot (slotsIn (now table)) ⌝ }
     ensures { λ r. ⌜ (r ≡ length (encodeItems (shownMessage observer) (taskAt (slotsIn (now (table .entry))) slot .mailbox))) × (r ≤ 384) ⌝ }
 {
     image::MESSAGE_SIZE * mail_shown(table, slot, observer)
@@ -148,6 +158,7 @@ fn mailbox_size(table: &table::Table, slot: usize, observer: u8) -> usize
 
 // How many bytes of a slot, with the length in front.
 fn slot_size(table: &table::Table, slot: usize, observer: u8) -> usize
+    requires { ⌜ slot < 16 ⌝ }
     ensures { λ r. ⌜ (r ≡ length (shownSlot observer (slotAt (slotsIn (now (table .entry))) slot))) × (r ≤ 423) ⌝ }
 {
     if is_shown(table, slot, observer) {
@@ -174,7 +185,8 @@ fn slots_size(table: &table::Table, observer: u8) -> usize
 
 // Writes the message, where the observer sees it: how many bytes.
 fn write_message(out: &mut [u8], table: &table::Table, slot: usize, i: usize, observer: u8) -> usize
-    requires { ⌜ length (shownMessage observer (messageAt (slotsIn (now table)) slot i)) ≤ length (now out) ⌝ }
+    requires { ⌜ (i < length (taskAt (slotsIn (now table)) slot .mailbox))
+        × (length (shownMessage observer (messageAt (slotsIn (now table)) slot i)) ≤ length (now out)) ⌝ }
     ensures { λ r. ⌜ (r ≡ length (shownMessage observer (messageAt (slotsIn (now (table .entry))) slot i))) × (r ≤ 6)
         × (now (out .exit) ≡ overwrite (shownMessage observer (messageAt (slotsIn (now (table .entry))) slot i)) (now (out .entry))) ⌝ }
 {
@@ -201,7 +213,8 @@ fn put_message(out: &mut [u8], label: u8, sender: u8, value: u32)
 
 // Writes the messages of a mailbox that the observer sees, each behind the one before.
 fn write_mailbox(out: &mut [u8], table: &table::Table, slot: usize, observer: u8)
-    requires { ⌜ length (encodeItems (shownMessage observer) (taskAt (slotsIn (now table)) slot .mailbox)) ≤ length (now out) ⌝ }
+    requires { ⌜ Used slot (slotsIn (now table))
+        × (length (encodeItems (shownMessage observer) (taskAt (slotsIn (now table)) slot .mailbox)) ≤ length (now out)) ⌝ }
     ensures { λ _. ⌜ now (out .exit) ≡ overwrite (encodeItems (shownMessage observer) (taskAt (slotsIn (now (table .entry))) slot .mailbox)) (now (out .entry)) ⌝ }
 {
     let count = table::mailbox_length(table, slot);
@@ -215,7 +228,7 @@ fn write_mailbox(out: &mut [u8], table: &table::Table, slot: usize, observer: u8
 
 // Writes the eight registers of a task.
 fn write_registers(out: &mut [u8], table: &table::Table, slot: usize)
-    requires { ⌜ (32 ≤ length (now out)) × (length (taskAt (slotsIn (now table)) slot .registers) ≡ 8) ⌝ }
+    requires { ⌜ (32 ≤ length (now out)) × Used slot (slotsIn (now table)) ⌝ }
     ensures { λ _. ⌜ now (out .exit) ≡ overwrite (encodeItems (encodeNumber 4) (taskAt (slotsIn (now (table .entry))) slot .registers)) (now (out .entry)) ⌝ }
 {
     let mut a: usize = 0;
@@ -239,7 +252,7 @@ fn write_fields(out: &mut [u8], size: usize, kind: u8, label: u8, spare: u8, pc:
 
 // Writes a task that the observer sees: the record's length, the fields, the registers and the mailbox. How many bytes.
 fn write_task(out: &mut [u8], table: &table::Table, slot: usize, observer: u8) -> usize
-    requires { ⌜ (length (taskAt (slotsIn (now table)) slot .registers) ≡ 8)
+    requires { ⌜ Used slot (slotsIn (now table))
         × (39 + length (encodeItems (shownMessage observer) (taskAt (slotsIn (now table)) slot .mailbox)) ≤ length (now out)) ⌝ }
     ensures { λ r. ⌜ (r ≡ length (shownTask observer (taskAt (slotsIn (now (table .entry))) slot))) × (r ≤ 423)
         × (now (out .exit) ≡ overwrite (shownTask observer (taskAt (slotsIn (now (table .entry))) slot)) (now (out .entry))) ⌝ }
@@ -257,7 +270,7 @@ fn write_task(out: &mut [u8], table: &table::Table, slot: usize, observer: u8) -
 
 // Writes a slot's record behind its length; where the observer sees no task, the slot is written as unused. How many bytes.
 fn write_slot(out: &mut [u8], table: &table::Table, slot: usize, observer: u8) -> usize
-    requires { ⌜ length (shownSlot observer (slotAt (slotsIn (now table)) slot)) ≤ length (now out) ⌝ }
+    requires { ⌜ (slot < 16) × (length (shownSlot observer (slotAt (slotsIn (now table)) slot)) ≤ length (now out)) ⌝ }
     ensures { λ r. ⌜ (r ≡ length (shownSlot observer (slotAt (slotsIn (now (table .entry))) slot))) × (r ≤ 423)
         × (now (out .exit) ≡ overwrite (shownSlot observer (slotAt (slotsIn (now (table .entry))) slot)) (now (out .entry))) ⌝ }
 {

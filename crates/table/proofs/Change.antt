@@ -1,18 +1,35 @@
 -- Laws of the list of slots and of the changes of one slot in it, for callers.
-use Prim.Native.Nat.{ℕ, zero, suc}
+use Prim.Native.Nat.{ℕ, zero, suc, _<_}
 use mathlib.Core.Path.{_≡_, refl, sym, ap, _∙_}
 use mathlib.Core.List.{List, [], _∷_}
+use native.Mathlib.Omega.{arith}
 use lib.ListN.{length, set}
 use lib.Seq.{set-getD}
 use Rattle.wire.proofs.Lists.{getD-set-at}
 use Rattle.wire.proofs.Tabulate.{length-tabulate}
 use Rattle.machine.specs.State.{Task, Slot, unused, used, slotAt}
 use Rattle.table.specs.Table.{window, taskIn, held, slotsIn}
-use Rattle.table.specs.Change.{taskOr, taskAt, changeSlot, change}
+use Rattle.table.specs.Change.{taskOr, taskAt, Used, changeSlot, change}
 
 pub length-slots : (t : List ℕ) → length (slotsIn t) ≡ 16
 unfolding slotsIn
 length-slots t = length-tabulate 16 (λ s. held (taskIn (window t s)))
+
+-- a slot whose task has a kind is used
+pub kind-used : (ss : List Slot) (s : ℕ) → 0 < taskAt ss s .kind → Used s ss
+kind-used ss s = there (slotAt ss s)
+  where
+    there : (x : Slot) → 0 < taskOr x .kind → x ≡ used (taskOr x)
+    there unused h = absurd (omega arith)
+    there (used t) h = refl
+
+-- and so is one with a message
+pub mail-used : (ss : List Slot) (s i : ℕ) → i < length (taskAt ss s .mailbox) → Used s ss
+mail-used ss s i = there (slotAt ss s)
+  where
+    there : (x : Slot) → i < length (taskOr x .mailbox) → x ≡ used (taskOr x)
+    there unused h = absurd (omega arith)
+    there (used t) h = refl
 
 -- two changes that agree on the task in the slot
 pub change-same : (ss : List Slot) (s : ℕ) (f g : Task → Task) → ((t : Task) → slotAt ss s ≡ used t → f t ≡ g t) → change s f ss ≡ change s g ss
@@ -36,6 +53,12 @@ change-set s f [] x = refl
 change-set zero f (y ∷ ss) x = refl
 change-set (suc s) f (y ∷ ss) x = ap (λ (r : List Slot). y ∷ r) (change-set s f ss x)
 
+-- the slot that was changed
+pub change-at : (s : ℕ) (f : Task → Task) (ss : List Slot) → slotAt (change s f ss) s ≡ changeSlot f (slotAt ss s)
+change-at s f [] = refl
+change-at zero f (y ∷ ss) = refl
+change-at (suc s) f (y ∷ ss) = change-at s f ss
+
 -- two changes of one slot are one
 pub change-change : (s : ℕ) (f g : Task → Task) (ss : List Slot) → change s g (change s f ss) ≡ change s (λ t. g (f t)) ss
 change-change s f g ss = change-set s g ss (changeSlot f (slotAt ss s)) ∙ ap (set ss s) (both (slotAt ss s))
@@ -45,7 +68,7 @@ change-change s f g ss = change-set s g ss (changeSlot f (slotAt ss s)) ∙ ap (
     both (used t) = refl
 
 -- a change of a task that is there
-pub change-here : (ss : List Slot) (s : ℕ) → slotAt ss s ≡ used (taskAt ss s) → (f : Task → Task) → change s f ss ≡ set ss s (used (f (taskAt ss s)))
+pub change-here : (ss : List Slot) (s : ℕ) → Used s ss → (f : Task → Task) → change s f ss ≡ set ss s (used (f (taskAt ss s)))
 change-here ss s here f = ap (λ (x : Slot). set ss s (changeSlot f x)) here
 
 -- what a change leaves as it is in its task, it leaves in every slot

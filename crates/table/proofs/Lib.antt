@@ -5,6 +5,5 @@ pub mod Message
 pub mod Change
 pub mod Slots
 pub mod Held
-pub mod Mailbox
 pub mod Shift
 pub mod Stores

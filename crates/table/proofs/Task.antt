@@ -14,7 +14,7 @@ use Rattle.table.specs.Change.{newTask}
 use Rattle.table.specs.Words.{cleared}
 
 -- a slot's words are sixteen words and those of the messages
-by-fields : (P : List ℕ → Type 0) → ((h : ℕ → ℕ) (r : List ℕ) → P (tabulate 16 h ++ r)) → (w : List ℕ) → length w ≡ 208 → P w
+by-fields : (P : List ℕ → Type 0) → ((h : ℕ → ℕ) (r : List ℕ) → P (tabulate 16 h ++ r)) → (w : List ℕ) → length w ≡ 232 → P w
 by-fields P f w long =
     let e : tabulate 16 (λ i. getD w i 0) ++ drop 16 w ≡ w = tabulate-front 16 w 0 (omega arith) in
     rw e at (f (λ i. getD w i 0) (drop 16 w))
@@ -23,7 +23,7 @@ by-fields P f w long =
 pub low-byte : (x : ℕ) → x < 256 → x % 256 ≡ x
 low-byte x h = omega arith
 
-module _ (x : ℕ) (w : List ℕ) (long : length w ≡ 208) where
+module _ (x : ℕ) (w : List ℕ) (long : length w ≡ 232) where
   pub kind-stored : x < 256 → taskIn (set w 0 x) ≡ withKind x (taskIn w)
   unfolding taskIn tabulate messagesIn messageIn
   kind-stored b = by-fields (λ v. taskIn (set v 0 x) ≡ withKind x (taskIn v)) (λ h r. rw (low-byte x b)) w long
@@ -51,12 +51,12 @@ task-stored k l s p w a b c = rw (low-byte k a, low-byte l b, low-byte s c)
 messages-kept : (w u : List ℕ) → drop 16 u ≡ drop 16 w → messagesIn u ≡ messagesIn w
 unfolding messagesIn messageIn
 messages-kept w u e =
-    let f : drop 80 u ≡ drop 80 w = sym (drop-drop 64 16 u) ∙ ap (drop 64) e ∙ drop-drop 64 16 w in
-    let g : drop 144 u ≡ drop 144 w = sym (drop-drop 128 16 u) ∙ ap (drop 128) e ∙ drop-drop 128 16 w in
+    let f : drop 88 u ≡ drop 88 w = sym (drop-drop 72 16 u) ∙ ap (drop 72) e ∙ drop-drop 72 16 w in
+    let g : drop 160 u ≡ drop 160 w = sym (drop-drop 144 16 u) ∙ ap (drop 144) e ∙ drop-drop 144 16 w in
     tabulate-same 64 (messageIn w) (messageIn u) (λ i h. rw (e, f, g))
 
 -- a word is stored among the registers
-registers-stored : (a x : ℕ) (w : List ℕ) → length w ≡ 208 → a < 8
+registers-stored : (a x : ℕ) (w : List ℕ) → length w ≡ 232 → a < 8
     → tabulate 8 (λ b. getD (drop 4 (set w (4 + a) x)) b 0) ≡ set (tabulate 8 (λ b. getD (drop 4 w) b 0)) a x
 registers-stored a x w long h =
     let inside : a < length (drop 4 w) = simp length-drop (omega arith) in
@@ -64,7 +64,7 @@ registers-stored a x w long h =
     (tabulate-set 8 (λ b. getD (drop 4 w) b 0) (λ b. getD (set (drop 4 w) a x) b 0) a (λ b l ne. getD-set-other (drop 4 w) a b x 0 ne) h
     ∙ ap (set (tabulate 8 (λ b. getD (drop 4 w) b 0)) a) (getD-set-same (drop 4 w) a x 0 inside))
 
-pub register-stored : (a x : ℕ) (w : List ℕ) → length w ≡ 208 → a < 8 → taskIn (set w (4 + a) x) ≡ withRegister a x (taskIn w)
+pub register-stored : (a x : ℕ) (w : List ℕ) → length w ≡ 232 → a < 8 → taskIn (set w (4 + a) x) ≡ withRegister a x (taskIn w)
 unfolding taskIn
 register-stored a x w long h =
     let same : (j : ℕ) → j ≢ 4 + a → getD (set w (4 + a) x) j 0 ≡ getD w j 0 = λ j ne. getD-set-other w (4 + a) j x 0 ne in

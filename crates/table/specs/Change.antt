@@ -1,10 +1,11 @@
 -- What the table's functions read of the slots and change in them. An unused slot holds no task, and there is none above 15.
 use Prim.Native.Nat.{ℕ}
+use mathlib.Core.Path.{_≡_}
 use mathlib.Core.List.{List, [], _∷_, _++_}
-use lib.ListN.{getD, set, take, replicate}
+use lib.ListN.{getD, set, replicate}
 use Rattle.wire.specs.Inner.{without}
 use Rattle.machine.specs.State.{Message, Task, Slot, unused, used, slotAt, withKind, withMailbox}
-use Rattle.table.specs.Table.{mailboxRoom, held}
+use Rattle.table.specs.Table.{held}
 
 -- ---- reading: what is not there reads as 0
 
@@ -21,6 +22,10 @@ taskOr (used t) = t
 -- the task in slot s, and message i of its mailbox
 abbrev pub taskAt : List Slot → ℕ → Task
 taskAt ss s = taskOr (slotAt ss s)
+
+-- slot s is used
+abbrev pub Used : ℕ → List Slot → Type 0
+Used s ss = slotAt ss s ≡ used (taskAt ss s)
 
 abbrev pub messageAt : List Slot → ℕ → ℕ → Message
 messageAt ss s i = getD (taskAt ss s .mailbox) i noMessage
@@ -40,9 +45,9 @@ abbrev pub slotWithKind : ℕ → Slot → Slot
 slotWithKind k unused = unused
 slotWithKind k (used t) = held (withKind k t)
 
--- the message joins the end of a mailbox that has room
+-- the message joins the end of the mailbox
 abbrev pub withMessage : Message → Task → Task
-withMessage m t = withMailbox (take mailboxRoom (t .mailbox ++ (m ∷ []))) t
+withMessage m t = withMailbox (t .mailbox ++ (m ∷ [])) t
 
 -- message i goes
 abbrev pub withoutMessage : ℕ → Task → Task

@@ -1,4 +1,4 @@
--- What the words of the table mean: sixteen slots of 208 words each.
+-- What the words of the table mean: sixteen slots of 232 words each.
 use Prim.Native.Nat.{ℕ, _*_, _%_}
 use mathlib.Core.Bool.{cond}
 use mathlib.Core.List.{List}
@@ -31,13 +31,13 @@ abbrev pub labelsWord : ℕ
 labelsWord = 16
 
 abbrev pub sendersWord : ℕ
-sendersWord = 80
+sendersWord = 88
 
 abbrev pub valuesWord : ℕ
-valuesWord = 144
+valuesWord = 160
 
 abbrev pub slotWords : ℕ
-slotWords = 208
+slotWords = 232
 
 abbrev pub tableWords : ℕ
 tableWords = 16 * slotWords

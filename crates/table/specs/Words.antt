@@ -1,21 +1,15 @@
 -- What the table's private functions read of a slot's words and change in them.
-use Prim.Native.Nat.{ℕ, zero, suc, _+_, _%_, _<_}
+use Prim.Native.Nat.{ℕ, zero, suc, _+_}
 use mathlib.Core.Path.{_≡_}
 use mathlib.Core.Logic.{_≢_}
-use mathlib.Core.Bool.{cond}
 use mathlib.Core.List.{List, _++_}
-use lib.Dec.{eqb}
 use lib.ListN.{getD, drop, set, replicate}
 use Rattle.machine.specs.State.{Message}
-use Rattle.table.specs.Table.{kindWord, labelsWord, sendersWord, valuesWord, window}
-
--- word i, 0 in an unused slot
-abbrev pub fieldWord : List ℕ → ℕ → ℕ
-fieldWord w i = cond (eqb (getD w kindWord 0 % 256) 0) 0 (getD w i 0)
+use Rattle.table.specs.Table.{labelsWord, sendersWord, valuesWord, window}
 
 -- u is the table t with f of the words of slot s
 pub record SlotStored (s : ℕ) (f : List ℕ → List ℕ) (t u : List ℕ) : Type 0 where
-  pub here : s < 16 → window u s ≡ f (window t s)
+  pub here : window u s ≡ f (window t s)
   pub other : (j : ℕ) → j ≢ s → window u j ≡ window t j
 
 -- the words with m as message i

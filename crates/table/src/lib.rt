@@ -1,6 +1,7 @@
-// The working storage of a call: sixteen slots of 208 words each, lent to the call and touched by slot and field only.
-// What is not there, a slot above 15, a field of an unused slot or a message past the last, reads as 0 and stays so.
-ghost use Prim.Native.Nat.{_+_, _<_, _≤_, _*_, _%_, min};
+// The working storage of a call: sixteen slots of 232 words each, lent to the call and touched by slot and field only.
+// Nothing is tested here that a caller knows: that a slot is one of the sixteen or is used, a register one of the eight, and a
+// message in the mailbox.
+ghost use Prim.Native.Nat.{_+_, _<_, _≤_, _*_, _%_};
 ghost use mathlib.Core.Path.{_≡_};
 ghost use mathlib.Core.List.{map};
 ghost use lib.Dec.{eqb};
@@ -9,13 +10,13 @@ ghost use Rattle.wire.specs.Inner.{firstIndex};
 ghost use Rattle.label.specs.Label.{flows};
 ghost use Rattle.machine.specs.State.{unused, slotAt, register, withLabel, withSpare, withPc, withRegister};
 ghost use Rattle.machine.specs.Turn.{ofLabel};
-ghost use Rattle.table.specs.Table.{tableWords, window, slotsIn, held};
-ghost use Rattle.table.specs.Words.{fieldWord, SlotStored, storeMessage, shifted, cleared};
-ghost use Rattle.table.specs.Change.{taskAt, messageAt, change, slotWithKind, withMessage, withoutMessage, newTask};
+ghost use Rattle.table.specs.Table.{slotWords, tableWords, mailboxRoom, window, slotsIn, held};
+ghost use Rattle.table.specs.Words.{SlotStored, storeMessage, shifted, cleared};
+ghost use Rattle.table.specs.Change.{Used, taskAt, messageAt, change, slotWithKind, withMessage, withoutMessage, newTask};
 
 const SLOTS: usize = 16;
 
-const SLOT_WORDS: usize = 208;
+const SLOT_WORDS: usize = 232;
 
 // The words of the whole table.
 pub const WORDS: usize = SLOTS * SLOT_WORDS;
@@ -24,7 +25,8 @@ pub type Table = [u32; WORDS];
 
 const MAILBOX_ROOM: usize = 64;
 
-// A slot's words: one for each field, and behind them a column of 64 for each field of the messages.
+// A slot's words: one for each field, and behind them a column of 64 for each field of the messages. Behind a column are 8 that
+// nothing reads, so that whole blocks of words move.
 const KIND: usize = 0;
 
 const LABEL: usize = 1;
@@ -39,26 +41,26 @@ const COUNT: usize = 12;
 
 const LABELS: usize = 16;
 
-const SENDERS: usize = 80;
+const SENDERS: usize = 88;
 
-const VALUES: usize = 144;
+const VALUES: usize = 160;
 
 // ---- words
 
 // The word at an index. It takes a slice, because the length of a slice is known.
 fn fetch(t: &[u32], at: usize) -> u32
+    requires { ⌜ at < length (now t) ⌝ }
     ensures { λ r. ⌜ r ≡ getD (now (t .entry)) at 0 ⌝ }
 {
-    if at < t.len() { t[at] } else { 0 }
+    t[at]
 }
 
 // The word at an index gets x.
 fn store(t: &mut [u32], at: usize, x: u32)
+    requires { ⌜ at < length (now t) ⌝ }
     ensures { λ _. ⌜ now (t .exit) ≡ set (now (t .entry)) at x ⌝ }
 {
-    if at < t.len() {
-        t[at] = x;
-    }
+    t[at] = x;
 }
 
 // The n words from index at on.
@@ -69,137 +71,109 @@ fn part(t: &[u32], at: usize, n: usize) -> &[u32]
     &t[at..at + n]
 }
 
-// The first word of slot s; the table's end where there is no slot s.
-fn start(s: usize) -> usize
-    ensures { λ r. ⌜ r ≡ min s 16 * 208 ⌝ }
-{
-    if s < SLOTS {
-        s * SLOT_WORDS
-    } else {
-        SLOTS * SLOT_WORDS
-    }
-}
-
 // Word i of slot s.
 fn word(t: &Table, s: usize, i: usize) -> u32
-    requires { ⌜ i < 208 ⌝ }
+    requires { ⌜ (s < 16) × (i < slotWords) ⌝ }
     ensures { λ r. ⌜ (length (now (t .entry)) ≡ tableWords) × (r ≡ getD (window (now (t .entry)) s) i 0) ⌝ }
 {
-    fetch(t, start(s) + i)
+    fetch(t, s * SLOT_WORDS + i)
 }
 
 // Word i of slot s gets x.
 fn put(t: &mut Table, s: usize, i: usize, x: u32)
-    requires { ⌜ i < 208 ⌝ }
+    requires { ⌜ (s < 16) × (i < slotWords) ⌝ }
     ensures { λ _. ⌜ (length (now (t .entry)) ≡ tableWords) × SlotStored s (λ w. set w i x) (now (t .entry)) (now (t .exit)) ⌝ }
 {
-    store(t, start(s) + i, x);
-}
-
-// Word i of slot s, 0 where slot s is unused: a slot is used where its kind is not 0.
-fn field(t: &Table, s: usize, i: usize) -> u32
-    requires { ⌜ i < 208 ⌝ }
-    ensures { λ r. ⌜ (length (now (t .entry)) ≡ tableWords) × (r ≡ fieldWord (window (now (t .entry)) s) i) ⌝ }
-{
-    if word(t, s, KIND) % 256 == 0 {
-        0
-    } else {
-        word(t, s, i)
-    }
+    store(t, s * SLOT_WORDS + i, x);
 }
 
 // ---- reading
 
 // The kind of the task in slot s, 0 where slot s is unused.
 pub fn kind(t: &Table, s: usize) -> u8
+    requires { ⌜ s < 16 ⌝ }
     ensures { λ r. ⌜ r ≡ taskAt (slotsIn (now (t .entry))) s .kind ⌝ }
 {
-    (field(t, s, KIND) % 256) as u8
+    (word(t, s, KIND) % 256) as u8
 }
 
 // The label of the task in slot s.
 pub fn label(t: &Table, s: usize) -> u8
+    requires { ⌜ Used s (slotsIn (now t)) ⌝ }
     ensures { λ r. ⌜ r ≡ taskAt (slotsIn (now (t .entry))) s .label ⌝ }
 {
-    (field(t, s, LABEL) % 256) as u8
+    (word(t, s, LABEL) % 256) as u8
 }
 
 // The spare slots that the task in slot s has a right to.
 pub fn spare(t: &Table, s: usize) -> u8
+    requires { ⌜ Used s (slotsIn (now t)) ⌝ }
     ensures { λ r. ⌜ r ≡ taskAt (slotsIn (now (t .entry))) s .spare ⌝ }
 {
-    (field(t, s, SPARE) % 256) as u8
+    (word(t, s, SPARE) % 256) as u8
 }
 
 // The index of the next instruction of the task in slot s.
 pub fn pc(t: &Table, s: usize) -> u32
+    requires { ⌜ Used s (slotsIn (now t)) ⌝ }
     ensures { λ r. ⌜ r ≡ taskAt (slotsIn (now (t .entry))) s .pc ⌝ }
 {
-    field(t, s, PC)
+    word(t, s, PC)
 }
 
-// Register a of the task in slot s; there is none above 7.
+// Register a of the task in slot s.
 pub fn register(t: &Table, s: usize, a: usize) -> u32
+    requires { ⌜ Used s (slotsIn (now t)) × (a < 8) ⌝ }
     ensures { λ r. ⌜ r ≡ register (taskAt (slotsIn (now (t .entry))) s) a ⌝ }
 {
-    if a < 8 { field(t, s, REGISTERS + a) } else { 0 }
+    word(t, s, REGISTERS + a)
 }
 
 // How many messages are in the mailbox of the task in slot s.
 pub fn mailbox_length(t: &Table, s: usize) -> usize
-    ensures { λ r. ⌜ (r ≡ length (taskAt (slotsIn (now (t .entry))) s .mailbox)) × (r ≤ 64) ⌝ }
+    requires { ⌜ Used s (slotsIn (now t)) ⌝ }
+    ensures { λ r. ⌜ (r ≡ length (taskAt (slotsIn (now (t .entry))) s .mailbox)) × (r ≤ mailboxRoom) ⌝ }
 {
-    let n = field(t, s, COUNT) as usize;
+    let n = word(t, s, COUNT) as usize;
     if n < MAILBOX_ROOM { n } else { MAILBOX_ROOM }
 }
 
 // The label of message i in slot s, the oldest first.
 pub fn message_label(t: &Table, s: usize, i: usize) -> u8
+    requires { ⌜ i < length (taskAt (slotsIn (now t)) s .mailbox) ⌝ }
     ensures { λ r. ⌜ r ≡ messageAt (slotsIn (now (t .entry))) s i .label ⌝ }
 {
-    if i < mailbox_length(t, s) {
-        (word(t, s, LABELS + i) % 256) as u8
-    } else {
-        0
-    }
+    (word(t, s, LABELS + i) % 256) as u8
 }
 
 // The slot that sent message i in slot s.
 pub fn message_sender(t: &Table, s: usize, i: usize) -> u8
+    requires { ⌜ i < length (taskAt (slotsIn (now t)) s .mailbox) ⌝ }
     ensures { λ r. ⌜ r ≡ messageAt (slotsIn (now (t .entry))) s i .sender ⌝ }
 {
-    if i < mailbox_length(t, s) {
-        (word(t, s, SENDERS + i) % 256) as u8
-    } else {
-        0
-    }
+    (word(t, s, SENDERS + i) % 256) as u8
 }
 
 // The value of message i in slot s.
 pub fn message_value(t: &Table, s: usize, i: usize) -> u32
+    requires { ⌜ i < length (taskAt (slotsIn (now t)) s .mailbox) ⌝ }
     ensures { λ r. ⌜ r ≡ messageAt (slotsIn (now (t .entry))) s i .value ⌝ }
 {
-    if i < mailbox_length(t, s) {
-        word(t, s, VALUES + i)
-    } else {
-        0
-    }
+    word(t, s, VALUES + i)
 }
 
 // The words of the labels of the messages in slot s, the oldest first.
 fn labels(t: &Table, s: usize) -> &[u32]
-    ensures { λ r. ⌜ map (λ x. x % 256) (now r) ≡ map (λ m. m .label) (taskAt (slotsIn (now (t .entry))) s .mailbox) ⌝ }
+    requires { ⌜ Used s (slotsIn (now t)) ⌝ }
+    ensures { λ r. ⌜ (map (λ x. x % 256) (now r) ≡ map (λ m. m .label) (taskAt (slotsIn (now (t .entry))) s .mailbox)) × (length (now r) ≤ mailboxRoom) ⌝ }
 {
     let n = mailbox_length(t, s);
-    if n > 0 {
-        part(t, start(s) + LABELS, n)
-    } else {
-        part(t, 0, 0)
-    }
+    part(t, s * SLOT_WORDS + LABELS, n)
 }
 
 // The index of the oldest message in slot s whose label flows to `label`; how many messages there are where there is none.
 pub fn oldest(t: &Table, s: usize, label: u8) -> usize
+    requires { ⌜ Used s (slotsIn (now t)) ⌝ }
     ensures { λ r. ⌜ r ≡ firstIndex (λ m. flows (m .label) label) (taskAt (slotsIn (now (t .entry))) s .mailbox) ⌝ }
 {
     let words = labels(t, s);
@@ -220,15 +194,17 @@ fn is_label(word: u32, label: u8) -> bool
     word % 256 == label as u32
 }
 
-// How many messages of a label are in the mailbox of the task in slot s.
-pub fn count_label(t: &Table, s: usize, label: u8) -> usize
+// How many messages of a label are in the mailbox of the task in slot s. The sum has the words' width, so that as many words are
+// compared at once as a register of the processor holds.
+pub fn count_label(t: &Table, s: usize, label: u8) -> u32
+    requires { ⌜ Used s (slotsIn (now t)) ⌝ }
     ensures { λ r. ⌜ r ≡ length (ofLabel label (taskAt (slotsIn (now (t .entry))) s .mailbox)) ⌝ }
 {
     let words = labels(t, s);
-    let mut n = 0;
+    let mut n: u32 = 0;
     let mut i = 0;
     while i < words.len() {
-        n += is_label(words[i], label) as usize;
+        n += is_label(words[i], label) as u32;
         i += 1;
     }
     n
@@ -238,15 +214,15 @@ pub fn count_label(t: &Table, s: usize, label: u8) -> usize
 
 // The task in slot s gets kind x; kind 0 takes it away.
 pub fn set_kind(t: &mut Table, s: usize, x: u8)
+    requires { ⌜ Used s (slotsIn (now t)) ⌝ }
     ensures { λ _. ⌜ slotsIn (now (t .exit)) ≡ set (slotsIn (now (t .entry))) s (slotWithKind x (slotAt (slotsIn (now (t .entry))) s)) ⌝ }
 {
-    if kind(t, s) > 0 {
-        put(t, s, KIND, x as u32);
-    }
+    put(t, s, KIND, x as u32);
 }
 
 // The task in slot s gets label x.
 pub fn set_label(t: &mut Table, s: usize, x: u8)
+    requires { ⌜ s < 16 ⌝ }
     ensures { λ _. ⌜ slotsIn (now (t .exit)) ≡ change s (withLabel x) (slotsIn (now (t .entry))) ⌝ }
 {
     put(t, s, LABEL, x as u32);
@@ -254,6 +230,7 @@ pub fn set_label(t: &mut Table, s: usize, x: u8)
 
 // The task in slot s gets a right to x spare slots.
 pub fn set_spare(t: &mut Table, s: usize, x: u8)
+    requires { ⌜ s < 16 ⌝ }
     ensures { λ _. ⌜ slotsIn (now (t .exit)) ≡ change s (withSpare x) (slotsIn (now (t .entry))) ⌝ }
 {
     put(t, s, SPARE, x as u32);
@@ -261,25 +238,25 @@ pub fn set_spare(t: &mut Table, s: usize, x: u8)
 
 // The next instruction of the task in slot s is that at index x.
 pub fn set_pc(t: &mut Table, s: usize, x: u32)
+    requires { ⌜ s < 16 ⌝ }
     ensures { λ _. ⌜ slotsIn (now (t .exit)) ≡ change s (withPc x) (slotsIn (now (t .entry))) ⌝ }
 {
     put(t, s, PC, x);
 }
 
-// Register a of the task in slot s gets x; there is none above 7.
+// Register a of the task in slot s gets x.
 pub fn set_register(t: &mut Table, s: usize, a: usize, x: u32)
+    requires { ⌜ (s < 16) × (a < 8) ⌝ }
     ensures { λ _. ⌜ slotsIn (now (t .exit)) ≡ change s (withRegister a x) (slotsIn (now (t .entry))) ⌝ }
 {
-    if a < 8 {
-        put(t, s, REGISTERS + a, x);
-    }
+    put(t, s, REGISTERS + a, x);
 }
 
 // ---- changing the mailbox
 
 // Message i of slot s is written, also where the mailbox ends before it.
 fn store_message(t: &mut Table, s: usize, i: usize, label: u8, sender: u8, value: u32)
-    requires { ⌜ i < 64 ⌝ }
+    requires { ⌜ (s < 16) × (i < mailboxRoom) ⌝ }
     ensures { λ _. ⌜ (length (now (t .entry)) ≡ tableWords) × SlotStored s (storeMessage i (record { label = label; sender = sender; value = value })) (now (t .entry)) (now (t .exit)) ⌝ }
 {
     put(t, s, LABELS + i, label as u32);
@@ -287,50 +264,50 @@ fn store_message(t: &mut Table, s: usize, i: usize, label: u8, sender: u8, value
     put(t, s, VALUES + i, value);
 }
 
-// The message joins the end of the mailbox; one of 64 messages has no room for it and stays as it was.
+// The message joins the end of a mailbox that has room for it.
 pub fn append(t: &mut Table, s: usize, label: u8, sender: u8, value: u32)
+    requires { ⌜ Used s (slotsIn (now t)) × (length (taskAt (slotsIn (now t)) s .mailbox) < mailboxRoom) ⌝ }
     ensures { λ _. ⌜ slotsIn (now (t .exit)) ≡ change s (withMessage (record { label = label; sender = sender; value = value })) (slotsIn (now (t .entry))) ⌝ }
 {
     let n = mailbox_length(t, s);
-    if n < MAILBOX_ROOM {
-        store_message(t, s, n, label, sender, value);
-        put(t, s, COUNT, (n + 1) as u32);
-    }
+    store_message(t, s, n, label, sender, value);
+    put(t, s, COUNT, (n + 1) as u32);
 }
 
-// Each of the n words from index at on is replaced by the one behind it.
-fn shift_down(t: &mut Table, at: usize, n: usize)
-    requires { ⌜ at + n < tableWords ⌝ }
-    ensures { λ _. ⌜ now (t .exit) ≡ shifted at n (now (t .entry)) ⌝ }
+// Each word of so many blocks of 8, from index at on, is replaced by the one behind it. The compiler moves a block at once, where
+// words left over would be moved one by one.
+fn shift_down(t: &mut Table, at: usize, blocks: usize)
+    requires { ⌜ at + 8 * blocks < tableWords ⌝ }
+    ensures { λ _. ⌜ now (t .exit) ≡ shifted at (8 * blocks) (now (t .entry)) ⌝ }
 {
-    let end = at + n;
-    let mut i = at;
-    while i < end {
-        let x = t[i + 1];
-        t[i] = x;
+    let words = 8 * blocks;
+    let mut i = 0;
+    while i < words {
+        let x = t[at + i + 1];
+        t[at + i] = x;
         i += 1;
     }
 }
 
-// Message i goes, and those behind it move down by one: column by column, so that nothing is tested for each message.
+// Message i goes, and those behind it move down by one, column by column. What moves with them from behind the last is no message.
 pub fn remove(t: &mut Table, s: usize, i: usize)
+    requires { ⌜ i < length (taskAt (slotsIn (now t)) s .mailbox) ⌝ }
     ensures { λ _. ⌜ slotsIn (now (t .exit)) ≡ change s (withoutMessage i) (slotsIn (now (t .entry))) ⌝ }
 {
     let n = mailbox_length(t, s);
-    if i < n {
-        let behind = n - 1 - i;
-        let at = start(s) + i;
-        shift_down(t, at + LABELS, behind);
-        shift_down(t, at + SENDERS, behind);
-        shift_down(t, at + VALUES, behind);
-        put(t, s, COUNT, (n - 1) as u32);
-    }
+    let blocks = (n - i + 6) / 8;
+    let at = s * SLOT_WORDS + i;
+    shift_down(t, at + LABELS, blocks);
+    shift_down(t, at + SENDERS, blocks);
+    shift_down(t, at + VALUES, blocks);
+    put(t, s, COUNT, (n - 1) as u32);
 }
 
 // ---- changing a slot
 
 // Slot s becomes unused. Its other words stay, and nothing reads them.
 pub fn clear(t: &mut Table, s: usize)
+    requires { ⌜ s < 16 ⌝ }
     ensures { λ _. ⌜ slotsIn (now (t .exit)) ≡ set (slotsIn (now (t .entry))) s unused ⌝ }
 {
     put(t, s, KIND, 0);
@@ -338,6 +315,7 @@ pub fn clear(t: &mut Table, s: usize)
 
 // Every word of slot s ahead of its messages becomes 0.
 fn clear_fields(t: &mut Table, s: usize)
+    requires { ⌜ s < 16 ⌝ }
     ensures { λ _. ⌜ SlotStored s (cleared 16) (now (t .entry)) (now (t .exit)) ⌝ }
 {
     let mut i = 0;
@@ -349,6 +327,7 @@ fn clear_fields(t: &mut Table, s: usize)
 
 // Slot s holds a new task in place of what it held, with registers 0 and no messages; kind 0 leaves it unused.
 pub fn put_task(t: &mut Table, s: usize, kind: u8, label: u8, spare: u8, pc: u32)
+    requires { ⌜ s < 16 ⌝ }
     ensures { λ _. ⌜ slotsIn (now (t .exit)) ≡ set (slotsIn (now (t .entry))) s (held (newTask kind label spare pc)) ⌝ }
 {
     clear_fields(t, s);

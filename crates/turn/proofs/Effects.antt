@@ -4,12 +4,12 @@ use mathlib.Core.Logic.{_≢_}
 use mathlib.Core.Path.{_≡_, refl, sym, ap, subst, _∙_}
 use mathlib.Core.Bool.{Bool, true, false, _&&_, and-false}
 use mathlib.Core.Option.{Option, none, some}
-use mathlib.Core.List.{List, [], _∷_, _++_}
+use mathlib.Core.List.{List}
 use native.Mathlib.Omega.{arith}
 use borrow.Author.Tests.{le-leb, lt-leb, lt-ltb, le-ltb, ne-eqb}
 use lib.Dec.{eqb}
-use lib.ListN.{length, set, length-append}
-use lib.Seq.{set-getD, take-all}
+use lib.ListN.{length, set, List·getD-eq-default}
+use lib.Seq.{set-getD}
 use Rattle.label.specs.Label.{flows, join}
 use Rattle.wire.specs.Lists.{dropFirst}
 use Rattle.wire.specs.Inner.{without, firstIndex}
@@ -23,8 +23,8 @@ use Rattle.machine.specs.Turn.{ofLabel, hasRoom, enqueue, perform, applied}
 use Rattle.machine.specs.Post.{mailOf, hasMore}
 use Rattle.machine.proofs.Post.{deliver-more}
 use Rattle.table.specs.Change.{noMessage, taskOr, taskAt, messageAt, changeSlot, change, slotWithKind, withMessage, withoutMessage}
-use Rattle.table.proofs.Change.{change-same, change-none, change-set, change-here}
-use Rattle.turn.specs.Effects.{executed, RoomFor, Ready, WasDecoded, isGiven}
+use Rattle.table.proofs.Change.{change-same, change-none, change-set, change-at, change-here}
+use Rattle.turn.specs.Effects.{executed, GoesOn, Ready, WasDecoded, isGiven}
 
 -- what y is added to where the sum wraps to x
 subtracted : (z x y : ℕ) → z < 2 ^ 32 → y < 2 ^ 32 → (z + y) % 2 ^ 32 ≡ x → z ≡ (x + 2 ^ 32 - y) % 2 ^ 32
@@ -45,13 +45,13 @@ module _ {s : ℕ} {ss : List Slot} (ready : Ready s ss) where
   stops : (i : Instruction) (k : ℕ) → eqb k 0 ≡ false → execute flows join i s (taskAt ss s) ≡ stopped k (taskAt ss s)
       → set ss s (slotWithKind k (slotAt ss s)) ≡ executed i s ss
   unfolding executed
-  stops i k z h = kind-here ss s (ready .here) k z ∙ ap (λ (o : Outcome). applied s o ss) (sym h)
+  stops i k z h = kind-here ss s (ready .goes .here) k z ∙ ap (λ (o : Outcome). applied s o ss) (sym h)
 
   -- its own change first, then its action
   with-action : (i : Instruction) (f : Task → Task) (a : Action) → execute flows join i s (taskAt ss s) ≡ record { task = f (taskAt ss s); action = a }
       → perform a (change s f ss) ≡ executed i s ss
   unfolding executed
-  with-action i f a h = ap (perform a) (change-here ss s (ready .here) f) ∙ ap (λ (o : Outcome). applied s o ss) (sym h)
+  with-action i f a h = ap (perform a) (change-here ss s (ready .goes .here) f) ∙ ap (λ (o : Outcome). applied s o ss) (sym h)
 
   -- or its own change alone
   alone : (i : Instruction) (f : Task → Task) → execute flows join i s (taskAt ss s) ≡ withoutAction (f (taskAt ss s))
@@ -177,6 +177,9 @@ module _ {s : ℕ} {ss : List Slot} (ready : Ready s ss) where
 
 -- ---- a message delivered to a slot
 
+pub few-room : (l : ℕ) (ms : List Message) {n : ℕ} → n ≡ length (ofLabel l ms) → n < 4 → hasRoom l ms ≡ true
+few-room l ms {n} counted few = rw (← counted) (lt-ltb n 4 few)
+
 module _ (ss : List Slot) (to : ℕ) (m : Message) where
   -- the slots after the delivery, and whether the message joined
   abbrev Delivered : List Slot → Bool → Type 0
@@ -195,15 +198,14 @@ module _ (ss : List Slot) (to : ℕ) (m : Message) where
 
   -- a live task with fewer than four of its label gets it
   pub deliver-joins : {kind n : ℕ} → kind ≡ taskAt ss to .kind → kind ≡ 1 → n ≡ length (ofLabel (m .label) (taskAt ss to .mailbox)) → n < 4
-      → RoomFor (m .label) (taskAt ss to .mailbox) → {after : List Slot} → after ≡ change to (withMessage m) ss → Delivered after true
-  deliver-joins {n = n} e live counted few roomy changed =
-      let room : hasRoom (m .label) (taskAt ss to .mailbox) ≡ true = rw (← counted) (lt-ltb n 4 few) in
-      told (rw (← e, live, room)) (changed ∙ ap (set ss to) (joins (slotAt ss to) (sym e ∙ live) room (roomy room)))
+      → {after : List Slot} → after ≡ change to (withMessage m) ss → Delivered after true
+  deliver-joins {n = n} e live counted few changed =
+      let room = few-room (m .label) (taskAt ss to .mailbox) counted few in
+      told (rw (← e, live, room)) (changed ∙ ap (set ss to) (joins (slotAt ss to) (sym e ∙ live) room))
     where
-      joins : (x : Slot) → taskOr x .kind ≡ 1 → hasRoom (m .label) (taskOr x .mailbox) ≡ true → length (taskOr x .mailbox) < 64
-          → changeSlot (withMessage m) x ≡ enqueue m x
-      joins unused live room fits = refl
-      joins (used t) live room fits = rw (live, room, take-all 64 (t .mailbox ++ (m ∷ [])) (simp length-append (omega arith)))
+      joins : (x : Slot) → taskOr x .kind ≡ 1 → hasRoom (m .label) (taskOr x .mailbox) ≡ true → changeSlot (withMessage m) x ≡ enqueue m x
+      joins unused live room = refl
+      joins (used t) live room = rw (live, room)
 
   -- in all other cases it is dropped
   drops : takes (slotAt ss to) ≡ false → Delivered ss false
@@ -216,19 +218,28 @@ module _ (ss : List Slot) (to : ℕ) (m : Message) where
   pub deliver-full : {n : ℕ} → n ≡ length (ofLabel (m .label) (taskAt ss to .mailbox)) → 4 ≤ n → Delivered ss false
   deliver-full {n} counted full = drops (rw (← counted, le-ltb n 4 full, and-false))
 
+  -- there is no slot above 15
+  pub deliver-beyond : length ss ≤ to → Delivered ss false
+  deliver-beyond past = drops (rw (List·getD-eq-default ss unused past))
+
   pub deliver-stopped : {kind : ℕ} → kind ≡ taskAt ss to .kind → kind ≢ 1 → Delivered ss false
   deliver-stopped {kind} e stopped = drops (rw (← e, ne-eqb kind 1 stopped))
 
+-- ---- a task that goes on still does once a field other than its place has changed
+
+pub goes-on : {s : ℕ} {ss : List Slot} (f : Task → Task) → ((t : Task) → f t .pc ≡ t .pc) → GoesOn s ss → GoesOn s (change s f ss)
+goes-on {s} {ss} f same go =
+    let x : slotAt (change s f ss) s ≡ used (f (taskAt ss s)) = change-at s f ss ∙ ap (changeSlot f) (go .here) in
+    record { here = rw x; place = rw (x, same (taskAt ss s)) (go .place) }
+
 -- ---- operands of an instruction that was decoded
 
-decoded-sound : {i j : Instruction} (d : WasDecoded i) → i ≡ j → Sound (d .n) j
-decoded-sound {i} d e = subst (Sound (d .n)) e (decode-sound (d .n) (d .code) (d .a) (d .b) (d .c) i (d .legal))
+-- what the arms of the match know of it, and what a form knows of its operands
+pub decoded-as : {i j : Instruction} → WasDecoded i → i ≡ j → WasDecoded j
+decoded-as d e = subst WasDecoded e d
 
-pub send-label : {i : Instruction} {a b c : ℕ} → WasDecoded i → i ≡ Send a b c → b ≤ 15
-send-label d e = decoded-sound d e .1
-
-pub sandbox-size : {i : Instruction} {a b c : ℕ} → WasDecoded i → i ≡ Sandbox a b c → 1 ≤ c
-sandbox-size d e = decoded-sound d e .2 .0
+pub sound : {i : Instruction} (d : WasDecoded i) → Sound (d .n) i
+sound {i} d = decode-sound (d .n) (d .code) (d .a) (d .b) (d .c) i (d .legal)
 
 -- ---- the arms of the match over the instruction: one law serves every arm
 
@@ -238,6 +249,3 @@ executed-as after ss s i j e h = rw e h
 
 -- with the effects that have no function of their own
 pub ruleset by-form = (executed-as, end-done, set-done, go-done)
-
--- what an effect asks of its operands
-pub ruleset of-operands = (send-label, sandbox-size)

@@ -5,7 +5,7 @@ use mathlib.Core.Path.{_≡_, refl, sym, ap, subst, _∙_}
 use mathlib.Core.Bool.{true, false, cond}
 use mathlib.Core.List.{List}
 use native.Mathlib.Omega.{arith}
-use borrow.Author.Tests.{leb-true, eq-eqb, ne-eqb}
+use borrow.Author.Tests.{eq-eqb, ne-eqb}
 use lib.Dec.{eqb}
 use lib.ListN.{length, getD, set}
 use Rattle.label.specs.Label.{flows, join}
@@ -19,10 +19,12 @@ use Rattle.machine.specs.Turn as Turn
 use Rattle.machine.specs.Turn.{applied, current}
 use Rattle.machine.specs.Valid.{Valid}
 use Rattle.machine.specs.Machine.{turns, busy}
+use Rattle.machine.specs.Inner.{Within}
 use Rattle.machine.proofs.Rules.{TaskFacts, SlotFacts, size-facts, slot-facts}
 use Rattle.machine.proofs.Mailbox.{mailbox-room}
-use Rattle.machine.proofs.Machine.{turns-valid, turns-more, busy-more}
-use Rattle.table.specs.Change.{taskOr, taskAt, slotWithKind}
+use Rattle.machine.proofs.Machine.{turns-valid, turns-none, turns-more, turns-add, busy-none, busy-more, busy-add}
+use Rattle.machine.proofs.Bounds.{turns-within, turns-unused}
+use Rattle.table.specs.Change.{taskOr, taskAt, Used, slotWithKind}
 use Rattle.turn.specs.Effects.{executed, RoomFor, Ready, WasDecoded}
 use Rattle.turn.proofs.Effects.{kind-here}
 
@@ -37,7 +39,7 @@ valid-room {s} ok j = roomy (slotAt (s .slots) j) (slot-facts (count (s .program
 -- ---- what a live task does with its turn
 
 -- a live task is there
-live-here : (ss : List Slot) (s : ℕ) → hasLiveTask (slotAt ss s) ≡ true → slotAt ss s ≡ used (taskAt ss s)
+pub live-here : (ss : List Slot) (s : ℕ) → hasLiveTask (slotAt ss s) ≡ true → Used s ss
 live-here ss s = there (slotAt ss s)
   where
     there : (x : Slot) → hasLiveTask x ≡ true → x ≡ used (taskOr x)
@@ -84,8 +86,8 @@ module _ (program : List ℕ) (s : ℕ) (ss : List Slot) (live : hasLiveTask (sl
       pub valid-ready : Ready s ss
       valid-ready =
           record {
-            here = live-here ss s live;
-            place = omega (arith, own .pc, size-facts (length program) (ok .size) .2);
+            goes = record { here = live-here ss s live; place = omega (arith, own .pc, size-facts (length program) (ok .size) .2) };
+            spare = own .spare;
             room = valid-room ok;
           }
 
@@ -107,7 +109,7 @@ module _ (ss : List Slot) (s : ℕ) {k : ℕ} (kind : k ≡ taskAt ss s .kind) w
   kind-idle e = live-kind ∙ ne-eqb k 1 e
 
 module _ (program : List ℕ) (s : ℕ) (ss : List Slot) where
-  pub turn-live : hasLiveTask (slotAt ss s) ≡ true
+  turn-live : hasLiveTask (slotAt ss s) ≡ true
       → applied s (outcome flows join program s (taskAt ss s)) ss ≡ turns 1 (record { program = program; turnSlot = s; slots = ss }) .slots
   unfolding Turn.turnsBy Turn.turnBy
   turn-live = live (slotAt ss s)
@@ -116,7 +118,7 @@ module _ (program : List ℕ) (s : ℕ) (ss : List Slot) where
       live unused e = cc
       live (used t) e = rw e
 
-  pub turn-idle : hasLiveTask (slotAt ss s) ≡ false → ss ≡ turns 1 (record { program = program; turnSlot = s; slots = ss }) .slots
+  turn-idle : hasLiveTask (slotAt ss s) ≡ false → ss ≡ turns 1 (record { program = program; turnSlot = s; slots = ss }) .slots
   unfolding Turn.turnsBy Turn.turnBy
   turn-idle = idle (slotAt ss s)
     where
@@ -126,19 +128,57 @@ module _ (program : List ℕ) (s : ℕ) (ss : List Slot) where
 
 -- ---- one turn more
 
--- the state after n turns, by its program, turn slot and slots
-module _ (start : State) (n : ℕ) (program : List ℕ) (s : ℕ) (ss : List Slot) (now : record { program = program; turnSlot = s; slots = ss } ≡ turns n start) where
-  pub turns-next : (ss′ : List Slot) → ss′ ≡ turns 1 (record { program = program; turnSlot = s; slots = ss }) .slots
+-- a run of n turns from a state has come to these slots, at turn slot s, and met so many live tasks
+pub record Ran (start : State) (program : List ℕ) (n s : ℕ) (ss : List Slot) (met : ℕ) : Type 0 where
+  pub state : record { program = program; turnSlot = s; slots = ss } ≡ turns n start
+  pub met-is : met ≡ busy n start
+
+pub ran-none : (start : State) → Ran start (start .program) 0 (start .turnSlot) (start .slots) 0
+ran-none start = record { state = turns-none start; met-is = sym (busy-none start) }
+
+module _ {start : State} {program : List ℕ} {n s : ℕ} {ss : List Slot} {met : ℕ} (ran : Ran start program n s ss met) where
+  turns-next : (ss′ : List Slot) → ss′ ≡ turns 1 (record { program = program; turnSlot = s; slots = ss }) .slots
       → record { program = program; turnSlot = (s + 1) % 16; slots = ss′ } ≡ turns (n + 1) start
   unfolding Turn.turnsBy Turn.turnBy
   turns-next ss′ e =
-      ap (λ (rs : List Slot). record { program = program; turnSlot = (s + 1) % 16; slots = rs }) e ∙ ap (Turn.turnBy flows join) now ∙ sym (turns-more n start)
+      ap (λ (rs : List Slot). record { program = program; turnSlot = (s + 1) % 16; slots = rs }) e ∙ ap (Turn.turnBy flows join) (ran .state) ∙ sym (turns-more n start)
 
-  pub busy-next : busy (n + 1) start ≡ busy n start + cond (hasLiveTask (slotAt ss s)) 1 0
-  busy-next = busy-more n start ∙ ap (λ (state : State). busy n start + cond (hasLiveTask (current state)) 1 0) (sym now)
+  busy-next : busy (n + 1) start ≡ met + cond (hasLiveTask (slotAt ss s)) 1 0
+  busy-next =
+      busy-more n start ∙ ap (λ (state : State). busy n start + cond (hasLiveTask (current state)) 1 0) (sym (ran .state))
+      ∙ ap (λ (k : ℕ). k + cond (hasLiveTask (slotAt ss s)) 1 0) (sym (ran .met-is))
 
-pub valid-after : (start at : State) (n : ℕ) → Valid start → at ≡ turns n start → Valid at
-valid-after start at n ok e = subst Valid (sym e) (turns-valid n start ok)
+  -- a turn that meets a live task
+  pub ran-live : hasLiveTask (slotAt ss s) ≡ true → {ss′ : List Slot} → ss′ ≡ applied s (outcome flows join program s (taskAt ss s)) ss
+      → Ran start program (n + 1) ((s + 1) % 16) ss′ (met + 1)
+  ran-live live {ss′} e = record { state = turns-next ss′ (e ∙ turn-live program s ss live); met-is = sym (busy-next ∙ rw live) }
 
-pub slot-after : (start at : State) (n : ℕ) → Valid start → at ≡ turns n start → at .turnSlot ≤ 15
-slot-after start at n ok e = leb-true (at .turnSlot) 15 (valid-after start at n ok e .turnSlot)
+  -- and one that meets none
+  pub ran-idle : hasLiveTask (slotAt ss s) ≡ false → Ran start program (n + 1) ((s + 1) % 16) ss met
+  ran-idle idle = record { state = turns-next ss (turn-idle program s ss idle); met-is = sym (busy-next ∙ rw idle (omega arith)) }
+
+  -- k turns of unused slots are passed over
+  pub ran-past : (k : ℕ) → s ≤ 15 → s + k ≤ 16 → ((j : ℕ) → s ≤ j → j < s + k → slotAt ss j ≡ unused) → Ran start program (n + k) ((s + k) % 16) ss met
+  ran-past k low fits none =
+      let at : State = record { program = program; turnSlot = s; slots = ss } in
+      let past = turns-unused at low k fits none in
+      record {
+        state = past .0 ∙ ap (turns k) (ran .state) ∙ sym (turns-add n k start);
+        met-is = ran .met-is ∙ sym (busy-add n k start ∙ ap (λ (state : State). busy n start + busy k state) (sym (ran .state)) ∙ rw (past .1) (omega arith));
+      }
+
+  -- k turns more, told by the state that they begin with
+  pub ran-round : (k s′ : ℕ) (ss′ : List Slot) (more : ℕ) → let at : State = record { program = program; turnSlot = s; slots = ss } in
+      more ≡ busy k at → record { program = program; turnSlot = s′; slots = ss′ } ≡ turns k at → Ran start program (n + k) s′ ss′ (met + more)
+  ran-round k s′ ss′ more counted state = record {
+    state = state ∙ ap (turns k) (ran .state) ∙ sym (turns-add n k start);
+    met-is = ap (λ (m : ℕ). m + more) (ran .met-is)
+        ∙ ap (λ (m : ℕ). busy n start + m) (counted ∙ ap (busy k) (ran .state))
+        ∙ sym (busy-add n k start);
+  }
+
+  pub ran-valid : Valid start → Valid (record { program = program; turnSlot = s; slots = ss })
+  ran-valid ok = subst Valid (sym (ran .state)) (turns-valid n start ok)
+
+  pub ran-within : (bottom top : ℕ) → Within bottom top (start .slots) → Within bottom top ss
+  ran-within bottom top ok = subst (λ (state : State). Within bottom top (state .slots)) (sym (ran .state)) (turns-within bottom top n start ok)

@@ -1,5 +1,5 @@
 -- The slots once a task has carried out an instruction, and what that rests on.
-use Prim.Native.Nat.{ℕ, _≤_, _<_}
+use Prim.Native.Nat.{ℕ, _+_, _≤_, _<_}
 use mathlib.Core.Path.{_≡_}
 use mathlib.Core.Bool.{Bool, true, false}
 use mathlib.Core.Option.{Option, none, some}
@@ -9,11 +9,11 @@ use Rattle.label.specs.Label.{flows, join}
 use Rattle.instruction.specs.declared.Instruction.{Instruction}
 use Rattle.instruction.specs.declared.Decoded.the-variants.{Legal}
 use Rattle.instruction.specs.Table.{decode}
-use Rattle.machine.specs.State.{Message, Slot, used, slotAt}
+use Rattle.machine.specs.State.{Message, Slot}
 use Rattle.machine.specs.Effect.{execute}
 use Rattle.machine.specs.Turn.{hasRoom, applied}
 use Rattle.table.specs.Table.{mailboxRoom}
-use Rattle.table.specs.Change.{taskAt}
+use Rattle.table.specs.Change.{taskAt, Used}
 
 -- the slots once the task in slot s has carried out instruction i
 unfoldable pub executed : Instruction → ℕ → List Slot → List Slot
@@ -23,11 +23,16 @@ executed i s ss = applied s (execute flows join i s (taskAt ss s)) ss
 abbrev pub RoomFor : ℕ → List Message → Type 0
 RoomFor l ms = hasRoom l ms ≡ true → length ms < mailboxRoom
 
--- what an instruction of the task in slot s rests on: the task is there, its place can go up, and a message of a label can
--- join where there are fewer than four
-pub record Ready (s : ℕ) (ss : List Slot) : Type 0 where
-  pub here : slotAt ss s ≡ used (taskAt ss s)
+-- the task in slot s is there, and its place can go up
+pub record GoesOn (s : ℕ) (ss : List Slot) : Type 0 where
+  pub here : Used s ss
   pub place : taskAt ss s .pc < 256
+
+-- what an instruction of the task in slot s rests on: it goes on, its spare slots are there, and a message of a label can join
+-- where there are fewer than four
+pub record Ready (s : ℕ) (ss : List Slot) : Type 0 where
+  pub goes : GoesOn s ss
+  pub spare : s + taskAt ss s .spare ≤ 15
   pub room : (j l : ℕ) → l ≤ 15 → RoomFor l (taskAt ss j .mailbox)
 
 -- i was decoded from four bytes of some program, so its operands are within the table

@@ -1,8 +1,8 @@
 // Turns over the table: the effect of each instruction, the turn of a slot, and a run of turns. They rest on a valid state.
-ghost use Prim.Native.Nat.{_+_, _-_, _%_, _≤_, _<_, min};
+ghost use Prim.Native.Nat.{_+_, _-_, _%_, _≤_, _<_, min, max};
 ghost use mathlib.Core.Path.{_≡_};
 ghost use mathlib.Core.Bool.{true};
-ghost use lib.ListN.{set};
+ghost use lib.ListN.{length, set};
 ghost use Rattle.label.specs.Label.{flows, join};
 ghost use Rattle.instruction.specs.declared.Instruction.the-variants.{Copy, Add, Subtract, Zero, Raise, Send, Take, Poll, Sandbox, Identity};
 ghost use Rattle.machine.specs.State.{used, slotAt, hasLiveTask, withRegister, next};
@@ -11,9 +11,10 @@ ghost use Rattle.machine.specs.Turn.{perform, applied};
 ghost use Rattle.machine.specs.Post.{hasMore};
 ghost use Rattle.machine.specs.Valid.{Valid};
 ghost use Rattle.machine.specs.Machine.{turns, busy};
+ghost use Rattle.machine.specs.Inner.{bottomOf, topBehind, topOf, Within};
 ghost use Rattle.table.specs.Table.{slotsIn, stateIn};
 ghost use Rattle.table.specs.Change.{taskAt, messageAt, change, withoutMessage};
-ghost use Rattle.turn.specs.Effects.{executed, RoomFor, Ready, WasDecoded, isGiven};
+ghost use Rattle.turn.specs.Effects.{executed, RoomFor, GoesOn, Ready, WasDecoded, isGiven};
 ghost use Rattle.turn.specs.Answer.{runTold};
 use instruction::Instruction;
 
@@ -21,7 +22,7 @@ use instruction::Instruction;
 
 // The place goes up by 1.
 fn advance(table: &mut table::Table, slot: u8)
-    requires { ⌜ taskAt (slotsIn (now table)) slot .pc < 256 ⌝ }
+    requires { ⌜ GoesOn slot (slotsIn (now table)) ⌝ }
     ensures { λ _. ⌜ slotsIn (now (table .exit)) ≡ change slot next (slotsIn (now (table .entry))) ⌝ }
 {
     let pc = table::pc(table, slot as usize);
@@ -30,7 +31,7 @@ fn advance(table: &mut table::Table, slot: u8)
 
 // The place goes up, and register a gets x.
 fn gets(table: &mut table::Table, slot: u8, a: u8, x: u32)
-    requires { ⌜ taskAt (slotsIn (now table)) slot .pc < 256 ⌝ }
+    requires { ⌜ GoesOn slot (slotsIn (now table)) × (a < 8) ⌝ }
     ensures { λ _. ⌜ slotsIn (now (table .exit)) ≡ change slot (λ t. next (withRegister a x t)) (slotsIn (now (table .entry))) ⌝ }
 {
     advance(table, slot);
@@ -39,7 +40,7 @@ fn gets(table: &mut table::Table, slot: u8, a: u8, x: u32)
 
 // Register a gets register b.
 fn copy(table: &mut table::Table, slot: u8, a: u8, b: u8)
-    requires { ⌜ Ready slot (slotsIn (now table)) ⌝ }
+    requires { ⌜ Ready slot (slotsIn (now table)) × WasDecoded (Copy a b) ⌝ }
     ensures { λ _. ⌜ slotsIn (now (table .exit)) ≡ executed (Copy a b) slot (slotsIn (now (table .entry))) ⌝ }
 {
     let x = table::register(table, slot as usize, b as usize);
@@ -48,7 +49,7 @@ fn copy(table: &mut table::Table, slot: u8, a: u8, b: u8)
 
 // Register a gets the sum of registers b and c, wrapped to 32 bits.
 fn add(table: &mut table::Table, slot: u8, a: u8, b: u8, c: u8)
-    requires { ⌜ Ready slot (slotsIn (now table)) ⌝ }
+    requires { ⌜ Ready slot (slotsIn (now table)) × WasDecoded (Add a b c) ⌝ }
     ensures { λ _. ⌜ slotsIn (now (table .exit)) ≡ executed (Add a b c) slot (slotsIn (now (table .entry))) ⌝ }
 {
     let x = table::register(table, slot as usize, b as usize);
@@ -58,7 +59,7 @@ fn add(table: &mut table::Table, slot: u8, a: u8, b: u8, c: u8)
 
 // Register a gets register b less register c, wrapped to 32 bits.
 fn subtract(table: &mut table::Table, slot: u8, a: u8, b: u8, c: u8)
-    requires { ⌜ Ready slot (slotsIn (now table)) ⌝ }
+    requires { ⌜ Ready slot (slotsIn (now table)) × WasDecoded (Subtract a b c) ⌝ }
     ensures { λ _. ⌜ slotsIn (now (table .exit)) ≡ executed (Subtract a b c) slot (slotsIn (now (table .entry))) ⌝ }
 {
     let x = table::register(table, slot as usize, b as usize);
@@ -68,7 +69,7 @@ fn subtract(table: &mut table::Table, slot: u8, a: u8, b: u8, c: u8)
 
 // The place becomes b if register a is 0.
 fn zero(table: &mut table::Table, slot: u8, a: u8, b: u8)
-    requires { ⌜ Ready slot (slotsIn (now table)) ⌝ }
+    requires { ⌜ Ready slot (slotsIn (now table)) × WasDecoded (Zero a b) ⌝ }
     ensures { λ _. ⌜ slotsIn (now (table .exit)) ≡ executed (Zero a b) slot (slotsIn (now (table .entry))) ⌝ }
 {
     if table::register(table, slot as usize, a as usize) == 0 {
@@ -90,7 +91,7 @@ fn raise(table: &mut table::Table, slot: u8, a: u8)
 
 // Register a gets the task's own label, then register b its own slot.
 fn identity(table: &mut table::Table, slot: u8, a: u8, b: u8)
-    requires { ⌜ Ready slot (slotsIn (now table)) ⌝ }
+    requires { ⌜ Ready slot (slotsIn (now table)) × WasDecoded (Identity a b) ⌝ }
     ensures { λ _. ⌜ slotsIn (now (table .exit)) ≡ executed (Identity a b) slot (slotsIn (now (table .entry))) ⌝ }
 {
     let own = table::label(table, slot as usize);
@@ -108,10 +109,12 @@ pub fn deliver(table: &mut table::Table, to: u32, label: u8, sender: u8, value: 
         ≡ perform (deliver to (record { label = label; sender = sender; value = value })) (slotsIn (now (table .entry))))
         × (r ≡ hasMore to (slotsIn (now (table .entry))) (slotsIn (now (table .exit)))) ⌝ }
 {
-    if table::kind(table, to as usize) == 1 {
-        if table::count_label(table, to as usize, label) < 4 {
-            table::append(table, to as usize, label, sender, value);
-            return true;
+    if to < 16 {
+        if table::kind(table, to as usize) == 1 {
+            if table::count_label(table, to as usize, label) < 4 {
+                table::append(table, to as usize, label, sender, value);
+                return true;
+            }
         }
     }
     false
@@ -120,7 +123,7 @@ pub fn deliver(table: &mut table::Table, to: u32, label: u8, sender: u8, value: 
 // Sends register c under label b to the slot numbered in register a. Where the task's label does not flow to b it gets kind 4,
 // and nothing is sent.
 fn send(table: &mut table::Table, slot: u8, a: u8, b: u8, c: u8)
-    requires { ⌜ Ready slot (slotsIn (now table)) × (b ≤ 15) ⌝ }
+    requires { ⌜ Ready slot (slotsIn (now table)) × WasDecoded (Send a b c) ⌝ }
     ensures { λ _. ⌜ slotsIn (now (table .exit)) ≡ executed (Send a b c) slot (slotsIn (now (table .entry))) ⌝ }
 {
     if label::flows(table::label(table, slot as usize), b) {
@@ -135,7 +138,7 @@ fn send(table: &mut table::Table, slot: u8, a: u8, b: u8, c: u8)
 
 // Message i goes: its value into register a, then its sender into register b.
 fn take_message(table: &mut table::Table, slot: u8, i: usize, a: u8, b: u8)
-    requires { ⌜ taskAt (slotsIn (now table)) slot .pc < 256 ⌝ }
+    requires { ⌜ GoesOn slot (slotsIn (now table)) × (i < length (taskAt (slotsIn (now table)) slot .mailbox)) × (a < 8) × (b < 8) ⌝ }
     ensures { λ _. ⌜ slotsIn (now (table .exit))
         ≡ change slot (λ t. next (withRegister b (messageAt (slotsIn (now (table .entry))) slot i .sender)
         (withRegister a (messageAt (slotsIn (now (table .entry))) slot i .value) (withoutMessage i t)))) (slotsIn (now (table .entry))) ⌝ }
@@ -149,7 +152,7 @@ fn take_message(table: &mut table::Table, slot: u8, i: usize, a: u8, b: u8)
 
 // Takes the oldest receivable message: whether there was one.
 fn take(table: &mut table::Table, slot: u8, a: u8, b: u8) -> bool
-    requires { ⌜ Ready slot (slotsIn (now table)) ⌝ }
+    requires { ⌜ Ready slot (slotsIn (now table)) × (a < 8) × (b < 8) ⌝ }
     ensures { λ r. ⌜ (slotsIn (now (table .exit)) ≡ executed (Take a b) slot (slotsIn (now (table .entry))))
         × (r ≡ isGiven (oldest flows (taskAt (slotsIn (now (table .entry))) slot))) ⌝ }
 {
@@ -165,7 +168,7 @@ fn take(table: &mut table::Table, slot: u8, a: u8, b: u8) -> bool
 
 // As take; with nothing receivable the place becomes c.
 fn poll(table: &mut table::Table, slot: u8, a: u8, b: u8, c: u8)
-    requires { ⌜ Ready slot (slotsIn (now table)) ⌝ }
+    requires { ⌜ Ready slot (slotsIn (now table)) × WasDecoded (Poll a b c) ⌝ }
     ensures { λ _. ⌜ slotsIn (now (table .exit)) ≡ executed (Poll a b c) slot (slotsIn (now (table .entry))) ⌝ }
 {
     if take(table, slot, a, b) {
@@ -178,7 +181,7 @@ fn poll(table: &mut table::Table, slot: u8, a: u8, b: u8, c: u8)
 
 // The new task of a sandbox in slot `child`, with the parent's label, and the parent's slot in register 0.
 fn spawn(table: &mut table::Table, child: usize, parent: u8, label: u8, pc: u8, size: u8)
-    requires { ⌜ 1 ≤ size ⌝ }
+    requires { ⌜ (child < 16) × (1 ≤ size) ⌝ }
     ensures { λ _. ⌜ slotsIn (now (table .exit)) ≡ set (slotsIn (now (table .entry))) child (used (childOf parent label pc size)) ⌝ }
 {
     table::put_task(table, child, 1, label, size - 1, pc as u32);
@@ -187,7 +190,7 @@ fn spawn(table: &mut table::Table, child: usize, parent: u8, label: u8, pc: u8, 
 
 // A new task at place b with the last c of the task's spare slots, its slot into register a; too few spare slots stop the task.
 fn sandbox(table: &mut table::Table, slot: u8, a: u8, b: u8, c: u8)
-    requires { ⌜ Ready slot (slotsIn (now table)) × (1 ≤ c) ⌝ }
+    requires { ⌜ Ready slot (slotsIn (now table)) × WasDecoded (Sandbox a b c) ⌝ }
     ensures { λ _. ⌜ slotsIn (now (table .exit)) ≡ executed (Sandbox a b c) slot (slotsIn (now (table .entry))) ⌝ }
 {
     let spare = table::spare(table, slot as usize);
@@ -243,19 +246,63 @@ fn act(table: &mut table::Table, program: &[u8], slot: u8)
     }
 }
 
-// The turn of a slot: whether it met a live task.
-fn turn(table: &mut table::Table, program: &[u8], slot: u8) -> bool
-    requires { ⌜ Valid (stateIn (now program) slot (now table)) ⌝ }
-    ensures { λ r. ⌜ (slotsIn (now (table .exit)) ≡ turns 1 (stateIn (now (program .entry)) slot (now (table .entry))) .slots)
-        × (r ≡ hasLiveTask (slotAt (slotsIn (now (table .entry))) slot)) ⌝ }
+// ---- the slots that can ever be used
+
+// The lowest used slot, and 16 where there is none.
+fn bottom(table: &table::Table) -> u8
+    ensures { λ r. ⌜ r ≡ bottomOf (slotsIn (now (table .entry))) ⌝ }
 {
-    if table::kind(table, slot as usize) == 1 {
-        act(table, program, slot);
-        true
+    let mut slot: u8 = 0;
+    while slot < 16 {
+        if table::kind(table, slot as usize) > 0 {
+            return slot;
+        }
+        slot += 1;
+    }
+    slot
+}
+
+// The slot behind slot `slot` and its spare where it is used, else `before`.
+fn top_behind(table: &table::Table, slot: u8, before: u8) -> u8
+    requires { ⌜ (slot < 16) × Within 0 16 (slotsIn (now table)) ⌝ }
+    ensures { λ r. ⌜ r ≡ topBehind slot before (slotAt (slotsIn (now (table .entry))) slot) ⌝ }
+{
+    if table::kind(table, slot as usize) > 0 {
+        slot + table::spare(table, slot as usize) + 1
     } else {
-        false
+        before
     }
 }
+
+// The slot behind the last used one and its spare, and 0 where there is none.
+fn top(table: &table::Table) -> u8
+    requires { ⌜ Within 0 16 (slotsIn (now table)) ⌝ }
+    ensures { λ r. ⌜ r ≡ topOf 16 (slotsIn (now (table .entry))) ⌝ }
+{
+    let mut top: u8 = 0;
+    let mut slot: u8 = 0;
+    while slot < 16 {
+        top = top_behind(table, slot, top);
+        slot += 1;
+    }
+    top
+}
+
+// The higher of two.
+fn max(a: u8, b: u8) -> u8
+    ensures { λ r. ⌜ r ≡ max a b ⌝ }
+{
+    if a < b { b } else { a }
+}
+
+// The lower of two.
+fn min(a: u8, b: u8) -> u8
+    ensures { λ r. ⌜ r ≡ min a b ⌝ }
+{
+    if a < b { a } else { b }
+}
+
+// ---- rounds
 
 // Turns go round by round. A round goes on at a slot and ends behind slot 15, or behind the last of the turns left.
 fn round_end(slot: u8, left: u64) -> u8
@@ -269,18 +316,25 @@ fn round_end(slot: u8, left: u64) -> u8
     }
 }
 
-// The turns of the slots from `first` up to `end`, each followed by the next: how many met a live task.
-fn round(table: &mut table::Table, program: &[u8], first: u8, end: u8) -> u64
-    requires { ⌜ Valid (stateIn (now program) first (now table)) × (first ≤ end) × (end ≤ 16) ⌝ }
+// The turns of the slots from `first` up to `end`, each followed by the next: how many met a live task. The slots below `bottom` and
+// from `top` on are unused and stay so, and are passed over.
+fn round(table: &mut table::Table, program: &[u8], first: u8, end: u8, bottom: u8, top: u8) -> u64
+    requires { ⌜ Valid (stateIn (now program) first (now table)) × (first ≤ end) × (end ≤ 16) × Within bottom top (slotsIn (now table)) ⌝ }
     ensures { λ r. ⌜ (r ≡ busy (end - first) (stateIn (now (program .entry)) first (now (table .entry))))
         × (stateIn (now (program .entry)) (end % 16) (now (table .exit))
         ≡ turns (end - first) (stateIn (now (program .entry)) first (now (table .entry)))) ⌝ }
 {
+    let stop = min(end, top);
     let mut busy: u64 = 0;
-    let mut slot = first;
-    while slot < end {
-        busy += turn(table, program, slot) as u64;
-        slot += 1;
+    let mut slot = max(first, bottom);
+    while slot < stop {
+        if table::kind(table, slot as usize) == 1 {
+            act(table, program, slot);
+            busy += 1;
+            slot += 1;
+        } else {
+            slot += 1;
+        }
     }
     busy
 }
@@ -308,9 +362,11 @@ pub fn turns(table: &mut table::Table, program: &[u8], first: u8, n: u64) -> Run
     let mut slot = first;
     let mut busy: u64 = 0;
     let mut left = n;
+    let bottom = bottom(table);
+    let top = top(table);
     while left > 0 {
         let end = round_end(slot, left);
-        busy += round(table, program, slot, end);
+        busy += round(table, program, slot, end, bottom, top);
         left -= (end - slot) as u64;
         slot = next_slot(end);
     }

@@ -2,14 +2,14 @@
 use Prim.Native.Nat.{ℕ, zero, suc, _+_, _≤_, _<_}
 use mathlib.Core.Path.{_≡_, refl, sym, ap, _∙_}
 use mathlib.Core.Bool.{Bool, true, false, cond, _&&_}
-use mathlib.Core.List.{List, [], _∷_, _++_, map, head?, append-nil}
+use mathlib.Core.List.{List, [], _∷_, _++_, map, head?}
 use mathlib.Core.Option.{none, some}
 use native.Mathlib.Decide.{decLe}
 use native.Mathlib.Nat.{not-suc-le-zero}
 use native.Mathlib.Numerals.{add-one}
 use native.Mathlib.Omega.{arith}
-use lib.ListN.{length, getD, set, take, drop, length-append, drop-of-length-le}
-use lib.Seq.{take-all, drop-cons, take-suc-set}
+use lib.ListN.{length, getD, set, take, drop, drop-of-length-le}
+use lib.Seq.{drop-cons, take-suc-set}
 use Rattle.wire.specs.Lists.{each, Every, all, keep, dropFirst, Bytes}
 use Rattle.wire.specs.Inner.{without, firstIndex}
 
@@ -106,15 +106,11 @@ module _ {A : Type 0} where
   take-length-take (suc n) [] = refl
   take-length-take (suc n) (x ∷ l) = rw (← take-length-take n l)
 
-  -- one more where there is room for it
-  pub take-append : (c n room : ℕ) (l : List A) (x : A) → length l ≡ room → n ≡ length (take c l) → n < room
-      → take (n + 1) (set l n x) ≡ take room (take c l ++ (x ∷ []))
-  take-append c n room l x long count h =
+  -- one more, stored behind them
+  pub take-append : (c n : ℕ) (l : List A) (x : A) → n ≡ length (take c l) → n < length l → take (n + 1) (set l n x) ≡ take c l ++ (x ∷ [])
+  take-append c n l x count h =
       let same : take n l ≡ take c l = rw count (sym (take-length-take c l)) in
-      rw (add-one, take-suc-set l n x (omega arith), same) (sym (take-all room (take c l ++ (x ∷ [])) (simp length-append (omega arith))))
-
-  pub without-past : (i : ℕ) (l : List A) → length l ≤ i → without i l ≡ l
-  without-past i l h = rw (take-all i l h, drop-of-length-le l {i = suc i} (omega arith), append-nil)
+      rw (add-one, take-suc-set l n x h, same)
 
 -- ---- every element
 

@@ -1,6 +1,6 @@
 // Bytes: numbers read from the front of a part and written at the front of one. Definitions in specs/ and laws in
 // proofs/ are cited by every other crate.
-ghost use Prim.Native.Nat.{_<_, min};
+ghost use Prim.Native.Nat.{_<_, _≤_, min};
 ghost use mathlib.Core.Path.{_≡_};
 ghost use mathlib.Core.List.{[], _∷_};
 ghost use lib.Dec.{eqb};
@@ -9,6 +9,14 @@ ghost use lib.ListN.{length, getD, take, drop};
 ghost use Rattle.wire.specs.Numbers.{decodeNumber, encodeNumber};
 ghost use Rattle.wire.specs.Inner.{written, same, firstIndex};
 ghost use Rattle.wire.specs.Slices.{offsetBy};
+
+// Byte i of s.
+pub fn byte(s: &[u8], i: usize) -> u8
+    requires { ⌜ i < length (now s) ⌝ }
+    ensures { λ r. ⌜ r ≡ getD (now (s .entry)) i 0 ⌝ }
+{
+    s[i]
+}
 
 // Byte i of s, and 0 past its end.
 pub fn byte_at(s: &[u8], i: usize) -> u8
@@ -67,19 +75,24 @@ pub fn index_of(s: &[u8], x: u8) -> usize
     i
 }
 
-// The number in the first two bytes of s; bytes past its end count as 0.
+// The number in the first two bytes of s; bytes past its end count as 0. Where both are there, one test says so.
 pub fn decode_u16(s: &[u8]) -> usize
     ensures { λ r. ⌜ (r ≡ decodeNumber 2 (now (s .entry))) × (r < 65536) ⌝ }
 {
-    (byte_at(s, 0) as usize) * 256 + (byte_at(s, 1) as usize)
+    if 2 <= s.len() {
+        (byte(s, 0) as usize) * 256 + (byte(s, 1) as usize)
+    } else {
+        (byte_at(s, 0) as usize) * 256
+    }
 }
 
-// The number in the first four bytes of s; bytes past its end count as 0.
+// The number in the first four bytes of s.
 pub fn decode_u32(s: &[u8]) -> u32
+    requires { ⌜ 4 ≤ length (now s) ⌝ }
     ensures { λ r. ⌜ r ≡ decodeNumber 4 (now (s .entry)) ⌝ }
 {
-    let high = (byte_at(s, 0) as u32) * 256 + (byte_at(s, 1) as u32);
-    (high * 256 + (byte_at(s, 2) as u32)) * 256 + (byte_at(s, 3) as u32)
+    let high = (byte(s, 0) as u32) * 256 + (byte(s, 1) as u32);
+    (high * 256 + (byte(s, 2) as u32)) * 256 + (byte(s, 3) as u32)
 }
 
 // Writes one byte at the front of an output that has room for it.

@@ -16,7 +16,7 @@ abbrev μ-loop : tie.MeasureT-loop
 put-line-requires : tie.Need-put-line-requires Inv-loop μ-loop
 put-line-requires c κs =
     let s = c .before .before .before .before in
-    line-part (s .args .observer) (slotsIn (now (s .args .table))) (now (s .args .out)) (s .pre) (omega arith) (c .before .before .loop .inv .1)
+    (omega arith, line-part (s .args .observer) (slotsIn (now (s .args .table))) (now (s .args .out)) (s .pre) (omega arith) (c .before .before .loop .inv .1))
 
 add-at : tie.Need-add-at Inv-loop μ-loop
 add-at c =

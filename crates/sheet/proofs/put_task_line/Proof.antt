@@ -11,6 +11,7 @@ use Rattle.table.specs.Change.{taskAt}
 use Rattle.text.specs.Text.{decimal, lineRest}
 use Rattle.sheet.specs.Inner.{shownTaskLine}
 use Rattle.sheet.proofs.Shown.{task-line}
+use Rattle.table.proofs.Slots.{used-slot}
 use Rattle.sheet.proofs.put_task_line.Statement.{statement}
 use Rattle.sheet.proofs.put_task_line.Tie as tie
 
@@ -39,7 +40,7 @@ line m =
     (m .mail-shown .ensures .0)
 
 room : (m : tie.After-mail-shown) → length (decimal (start m .args .slot) ++ fields m) ≤ length (now (start m .args .out))
-room m = rw (line m) at (start m .pre)
+room m = rw (line m) at (start m .pre .1)
 
 -- the slot's number is written
 front : (c : tie.After-put-decimal) → let m = c .before .before in
@@ -61,11 +62,11 @@ pub put-task-line-spec : {M : Type 1} → statement M
 put-task-line-spec =
     tie.close
     (tie.spec
-    (λ c κs. tt)
-    (λ c κs. tt)
-    (λ c κs. tt)
-    (λ c κs. tt)
-    (λ c κs. tt)
+    (λ c κs. used-slot _ _ (c .before .pre .0))
+    (λ c κs. c .before .before .pre .0)
+    (λ c κs. c .before .before .before .pre .0)
+    (λ c κs. c .before .before .before .before .pre .0)
+    (λ c κs. c .before .before .before .before .before .pre .0)
     (λ c. omega arith)
     (λ c. omega arith)
     (λ c. omega arith)

@@ -1,22 +1,27 @@
 -- `snapshot::is_shown` meets its contract: a task in the table has a kind other than 0.
-use mathlib.Core.Path.{ap, _∙_}
-use mathlib.Core.Bool.{Bool, not, _&&_}
+use mathlib.Core.Path.{sym, _∙_}
+use native.Mathlib.Omega.{arith}
 use denote.Ref.{now}
-use lib.Dec.{eqb}
-use Rattle.machine.specs.State.{slotAt}
 use Rattle.table.specs.Table.{slotsIn}
-use Rattle.table.proofs.Slots.{used-kind}
-use Rattle.snapshot.proofs.Writing.{shown-is}
+use Rattle.table.specs.Change.{Used}
+use Rattle.table.proofs.Change.{kind-used}
+use Rattle.table.proofs.Slots.{kind-none}
+use Rattle.snapshot.proofs.Writing.{shown-flows, shown-none}
 use Rattle.snapshot.proofs.is_shown.Statement.{statement}
 use Rattle.snapshot.proofs.is_shown.Tie as tie
 
+here : (c : tie.Then1) → Used (c .before .before .args .slot) (slotsIn (now (c .before .before .args .table)))
+here c = let a = c .before .before .args in kind-used (slotsIn (now (a .table))) (a .slot) (omega (arith, c .before .kind .ensures, c .if1 .taken))
+
 returns : tie.Need-returns
 returns c =
-    let a = c .before .before .before .args in
-    let kind = c .before .before .kind in
-    let label = c .before .label in
-    ap (λ (seen : Bool). not (eqb (kind .result) 0) && seen) (c .flows .ensures)
-    ∙ shown-is (slotAt (slotsIn (now (a .table))) (a .slot)) (kind .result) (label .result) (a .observer) (kind .ensures) (label .ensures) (used-kind (now (a .table)) (a .slot))
+    let a = c .before .before .before .before .args in
+    c .flows .ensures ∙ rw (c .before .label .ensures) (shown-flows (a .observer) (slotsIn (now (a .table))) (a .slot) (here (c .before .before)))
+
+returns-2 : tie.Need-returns-2
+returns-2 c =
+    let a = c .before .before .args in
+    shown-none (a .observer) _ (kind-none (now (a .table)) (a .slot) (omega (arith, c .before .kind .ensures, c .if1 .left)))
 
 pub is-shown-spec : {M : Type 1} → statement M
-is-shown-spec = tie.close (tie.spec (λ c κs. tt) (λ c κs. tt) (λ c κs. tt) returns)
+is-shown-spec = tie.close (tie.spec (λ c κs. c .pre) (λ c κs. here c) (λ c κs. tt) returns returns-2)

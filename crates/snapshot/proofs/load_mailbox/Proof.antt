@@ -3,13 +3,13 @@ use Prim.Native.Nat.{_≤_, _-_, _*_, _/_}
 use mathlib.Core.Path.{_≡_, ap, _∙_}
 use native.Mathlib.Omega.{arith}
 use denote.Ref.{now}
-use lib.ListN.{length, drop}
+use lib.ListN.{length, drop, length-drop}
 use Rattle.machine.specs.State.{Message}
 use Rattle.image.specs.Record.{messageOf}
 use Rattle.table.specs.Table.{slotsIn}
 use Rattle.table.specs.Change.{change, withMessage}
 use Rattle.snapshot.specs.Loading.{messagesAdded}
-use Rattle.snapshot.proofs.Loading.{messages-none, messages-next}
+use Rattle.snapshot.proofs.Loading.{from-on, messages-none, messages-next, message-at, messages-here}
 use Rattle.snapshot.proofs.load_mailbox.Statement.{statement}
 use Rattle.snapshot.proofs.load_mailbox.Tie as tie
 
@@ -19,17 +19,21 @@ Inv-loop table₀ slot mailbox count i₀ table i = (i ≤ count) × (slotsIn ta
 abbrev μ-loop : tie.MeasureT-loop
 μ-loop table₀ slot mailbox count i₀ table i = count - i
 
+append-requires : tie.Need-append-requires Inv-loop μ-loop
+append-requires c κs =
+    let h = c .before .before .before .before .before .before .loop in
+    let b = c .before .before .before .before .before .before .before .before in
+    let here = messages-here (b .args .slot) (h .i) (now (b .args .mailbox)) (slotsIn (now (b .args .table))) (b .pre .0) in
+    rw (h .inv .1) (here .0, omega (arith, here .1, b .pre .1))
+
 loop-again : tie.Need-loop-again Inv-loop μ-loop
 loop-again c =
-    let h = c .before .before .before .before .before .before .before .before .loop in
-    let a = c .before .before .before .before .before .before .before .before .before .before .args in
-    let label = c .before .before .byte-at in
-    let sender = c .before .byte-at2 in
+    let h = c .before .before .before .before .before .before .before .loop in
+    let a = c .before .before .before .before .before .before .before .before .before .args in
     let value = c .before .before .before .before .decode-u32 in
-    let rest = c .before .before .before .before .before .drop2 in
-    let message = c .before .before .before .before .before .before .drop in
-    let m : Message = record { label = label .result; sender = sender .result; value = value .result } in
-    let e : m ≡ messageOf (drop (6 * h .i) (now (a .mailbox))) = rw (label .ensures, sender .ensures, value .ensures, rest .ensures .0, message .ensures .0) in (
+    let m : Message = record { label = c .before .before .byte .result; sender = c .before .byte2 .result; value = value .result } in
+    let e : m ≡ messageOf (drop (6 * h .i) (now (a .mailbox)))
+    = message-at (h .i) (now (a .mailbox)) (c .before .before .byte .ensures) (c .before .byte2 .ensures) (rw from-on at (value .ensures)) in (
       omega arith,
       c .append .ensures ∙ ap (change (a .slot) (withMessage m)) (h .inv .1)
           ∙ messages-next (a .slot) (h .i) m (now (a .mailbox)) (slotsIn (now (a .table))) e,
@@ -48,12 +52,15 @@ load-mailbox-spec =
     μ-loop
     (λ c. (omega arith, messages-none _ _ _))
     (λ c. omega arith)
-    (λ c κs. tt)
-    (λ c κs. tt)
-    (λ c κs. tt)
-    (λ c κs. tt)
-    (λ c κs. tt)
-    (λ c κs. tt)
+    (λ c. omega arith)
+    (λ c. omega arith)
+    (λ c. omega arith)
+    (λ c. omega arith)
+    (λ c κs. rw (from-on, length-drop) (omega arith))
+    (λ c κs. omega arith)
+    (λ c. omega arith)
+    (λ c κs. omega arith)
+    append-requires
     (λ c. omega arith)
     (λ c. omega arith)
     loop-again

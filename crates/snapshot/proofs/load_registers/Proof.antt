@@ -3,13 +3,13 @@ use Prim.Native.Nat.{_≤_, _-_, _*_}
 use mathlib.Core.Path.{_≡_, ap, _∙_}
 use native.Mathlib.Omega.{arith}
 use denote.Ref.{now}
-use lib.ListN.{drop}
+use lib.ListN.{drop, length-drop}
 use Rattle.wire.specs.Numbers.{decodeNumber}
 use Rattle.machine.specs.State.{withRegister}
 use Rattle.table.specs.Table.{slotsIn}
 use Rattle.table.specs.Change.{change}
 use Rattle.snapshot.specs.Loading.{registersSet}
-use Rattle.snapshot.proofs.Loading.{registers-none, registers-next}
+use Rattle.snapshot.proofs.Loading.{from-on, registers-none, registers-next}
 use Rattle.snapshot.proofs.load_registers.Statement.{statement}
 use Rattle.snapshot.proofs.load_registers.Tie as tie
 
@@ -23,9 +23,12 @@ loop-again : tie.Need-loop-again Inv-loop μ-loop
 loop-again c =
     let h = c .before .before .before .before .before .loop in
     let a = c .before .before .before .before .before .before .before .args in
-    let x = c .before .before .decode-u32 .result in
-    let e : x ≡ decodeNumber 4 (drop (4 * h .a) (now (a .registers))) = rw (c .before .before .before .drop .ensures .0) at (c .before .before .decode-u32 .ensures) in
-    (omega arith, c .set-register .ensures ∙ ap (change (a .slot) (withRegister (h .a) x)) (h .inv .1) ∙ registers-next (a .slot) (h .a) x (now (a .registers)) (slotsIn (now (a .table))) e)
+    let x = c .before .before .decode-u32 in
+    let e : x .result ≡ decodeNumber 4 (drop (4 * h .a) (now (a .registers))) = rw from-on at (x .ensures) in (
+      omega arith,
+      c .set-register .ensures ∙ ap (change (a .slot) (withRegister (h .a) (x .result))) (h .inv .1)
+          ∙ registers-next (a .slot) (h .a) (x .result) (now (a .registers)) (slotsIn (now (a .table))) e,
+    )
 
 returns : tie.Need-returns Inv-loop μ-loop
 returns c =
@@ -40,9 +43,11 @@ load-registers-spec =
     μ-loop
     (λ c. (omega arith, registers-none _ _ _))
     (λ c. omega arith)
-    (λ c κs. tt)
-    (λ c κs. tt)
-    (λ c κs. tt)
+    (λ c. omega (arith, c .before .before .before .pre .1))
+    (λ c. omega arith)
+    (λ c. omega arith)
+    (λ c κs. rw (from-on, length-drop) (omega (arith, c .before .before .before .before .pre .1)))
+    (λ c κs. omega (arith, c .before .before .before .before .before .before .pre .0))
     (λ c. omega arith)
     (λ c. omega arith)
     loop-again

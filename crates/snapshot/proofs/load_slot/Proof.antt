@@ -19,4 +19,4 @@ returns-2 c =
     c .load-task .ensures ∙ ap (set (slotsIn (now (a .table))) (a .slot)) (sym (slot-some (now (a .bytes)) (λ z. omega arith)))
 
 pub load-slot-spec : {M : Type 1} → statement M
-load-slot-spec = tie.close (tie.spec (λ c κs. tt) (λ c κs. c .before .before .before .pre (omega arith)) returns returns-2)
+load-slot-spec = tie.close (tie.spec (λ c κs. c .before .before .before .pre .0) (λ c κs. let b = c .before .before .before in (b .pre .0, b .pre .1 (omega arith))) returns returns-2)

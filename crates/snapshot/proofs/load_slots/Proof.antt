@@ -27,7 +27,7 @@ load-slot-requires : tie.Need-load-slot-requires Inv-loop μ-loop
 load-slot-requires c κs =
     let s = c .before .before .before .before .before in
     let h = c .before .before .before .loop in
-    rw (c .front-record .ensures ∙ ap recordOf (h .inv .1)) (s .pre (h .slot) (omega arith))
+    (omega arith, rw (c .front-record .ensures ∙ ap recordOf (h .inv .1)) (s .pre (h .slot) (omega arith)))
 
 loop-again : tie.Need-loop-again Inv-loop μ-loop
 loop-again c =

@@ -45,9 +45,9 @@ mail-shown-spec =
     (tie.spec
     Inv-loop
     μ-loop
-    (λ c κs. tt)
+    (λ c κs. c .pre)
     (λ c. (omega arith, omega arith, sym (zero-add _)))
-    (λ c κs. tt)
+    (λ c κs. omega (arith, c .before .before .mailbox-length .ensures .0))
     (λ c κs. tt)
     (λ c. omega arith)
     (λ c. omega (arith, test-counted (c .flows .result) .1))

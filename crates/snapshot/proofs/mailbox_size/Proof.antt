@@ -15,4 +15,4 @@ returns c =
     (ap (λ (n : ℕ). 6 * n) (c .mail-shown .ensures .0) ∙ mailbox-length (a .observer) (taskAt (slotsIn (now (a .table))) (a .slot)), omega arith)
 
 pub mailbox-size-spec : {M : Type 1} → statement M
-mailbox-size-spec = tie.close (tie.spec (λ c κs. tt) (λ c. omega arith) returns)
+mailbox-size-spec = tie.close (tie.spec (λ c κs. c .pre) (λ c. omega arith) returns)

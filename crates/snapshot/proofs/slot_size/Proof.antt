@@ -6,7 +6,7 @@ use denote.Ref.{now}
 use lib.ListN.{length}
 use Rattle.machine.specs.State.{slotAt}
 use Rattle.table.specs.Table.{slotsIn}
-use Rattle.snapshot.proofs.Writing.{shown-length, slot-hidden}
+use Rattle.snapshot.proofs.Writing.{shown-used, shown-length, slot-hidden}
 use Rattle.snapshot.proofs.slot_size.Statement.{statement}
 use Rattle.snapshot.proofs.slot_size.Tie as tie
 
@@ -24,4 +24,11 @@ returns-2 c =
     (sym (ap length (slot-hidden (a .observer) (slotAt (slotsIn (now (a .table))) (a .slot)) hidden)), omega arith)
 
 pub slot-size-spec : {M : Type 1} → statement M
-slot-size-spec = tie.close (tie.spec (λ c κs. tt) (λ c κs. tt) (λ c. omega arith) returns returns-2)
+slot-size-spec =
+    tie.close
+    (tie.spec
+    (λ c κs. c .pre)
+    (λ c κs. let a = c .before .before .args in shown-used (a .observer) (slotsIn (now (a .table))) (a .slot) (sym (c .before .is-shown .ensures) ∙ c .if1 .taken))
+    (λ c. omega arith)
+    returns
+    returns-2)

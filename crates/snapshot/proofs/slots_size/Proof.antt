@@ -42,7 +42,7 @@ slots-size-spec =
     Inv-loop
     μ-loop
     (λ c. (omega arith, omega arith, sym (zero-add _)))
-    (λ c κs. tt)
+    (λ c κs. omega arith)
     (λ c. omega arith)
     (λ c. omega arith)
     (λ c. omega arith)

@@ -20,7 +20,7 @@ write-message-requires : tie.Need-write-message-requires Inv-loop μ-loop
 write-message-requires c κs =
     let s = c .before .before .before .before .before in
     let ms = taskAt (slotsIn (now (s .args .table))) (s .args .slot) .mailbox in
-    item-part (shownMessage (s .args .observer)) ms (now (s .args .out)) (s .pre) noMessage (omega arith) (c .before .before .loop .inv .2)
+    (omega arith, item-part (shownMessage (s .args .observer)) ms (now (s .args .out)) (s .pre .1) noMessage (omega arith) (c .before .before .loop .inv .2))
 
 loop-again : tie.Need-loop-again Inv-loop μ-loop
 loop-again c =
@@ -28,7 +28,7 @@ loop-again c =
     let h = c .before .before .before .before .before .loop in
     let ms = taskAt (slotsIn (now (s .args .table))) (s .args .slot) .mailbox in
     let wrote = c .before .before .write-message in
-    let more = items-more (shownMessage (s .args .observer)) ms (now (s .args .out)) (s .pre) noMessage (omega arith) (h .inv .2) (wrote .ensures .2) in
+    let more = items-more (shownMessage (s .args .observer)) ms (now (s .args .out)) (s .pre .1) noMessage (omega arith) (h .inv .2) (wrote .ensures .2) in
     (omega arith, omega arith, rw (← wrote .ensures .0) at more)
 
 returns : tie.Need-returns Inv-loop μ-loop
@@ -42,7 +42,7 @@ write-mailbox-spec =
     (tie.spec
     Inv-loop
     μ-loop
-    (λ c κs. tt)
+    (λ c κs. c .before .pre .0)
     (λ c. (omega arith, omega arith, items-none _ _ _))
     (λ c. omega arith)
     (λ c. omega arith)

@@ -22,7 +22,7 @@ shown : (c : tie.Then1) → let s = c .before .before .before .before in shownMe
 shown c = message-shown _ _ (c .before .before .message-label .ensures) (c .before .flows .ensures) (c .if1 .taken)
 
 room : (c : tie.Then1) → 6 ≤ length (now (c .before .before .before .before .args .out))
-room c = rw (shown c) at (c .before .before .before .before .pre)
+room c = rw (shown c) at (c .before .before .before .before .pre .1)
 
 returns : tie.Need-returns
 returns c =
@@ -50,4 +50,14 @@ same-length c =
     ∙ length-overwrite (messageBytes m) (now (p .before .before .before .before .before .before .before .args .out)) (room (p .before .before .before))
 
 pub write-message-spec : {M : Type 1} → statement M
-write-message-spec = tie.close (tie.spec (λ c κs. tt) (λ c κs. tt) (λ c κs. tt) (λ c κs. tt) (λ c κs. room (c .before .before .before)) same-length returns returns-2)
+write-message-spec =
+    tie.close
+    (tie.spec
+    (λ c κs. c .before .pre .0)
+    (λ c κs. tt)
+    (λ c κs. c .before .before .before .before .pre .0)
+    (λ c κs. c .before .before .before .before .before .pre .0)
+    (λ c κs. room (c .before .before .before))
+    same-length
+    returns
+    returns-2)

@@ -8,7 +8,7 @@ use lib.ListN.{length}
 use Rattle.wire.proofs.Output.{written-fits}
 use Rattle.machine.specs.State.{slotAt}
 use Rattle.table.specs.Table.{slotsIn}
-use Rattle.snapshot.proofs.Writing.{slot-shown, shown-registers, shown-length, slot-hidden}
+use Rattle.snapshot.proofs.Writing.{slot-shown, shown-used, shown-length, slot-hidden}
 use Rattle.snapshot.proofs.write_slot.Statement.{statement}
 use Rattle.snapshot.proofs.write_slot.Tie as tie
 
@@ -17,7 +17,7 @@ write-task-requires c κs =
     let s = c .before .before .before .before in
     let words = now (s .args .table) in
     let shown = sym (c .before .before .is-shown .ensures) ∙ c .before .if1 .taken in
-    (shown-registers words (s .args .slot) (s .args .observer) shown, rw (shown-length words (s .args .slot) (s .args .observer) shown) at (s .pre))
+    (shown-used (s .args .observer) (slotsIn words) (s .args .slot) shown, rw (shown-length words (s .args .slot) (s .args .observer) shown) at (s .pre .1))
 
 returns : tie.Need-returns
 returns c =
@@ -30,14 +30,14 @@ returns-2 c =
     let s = c .before .before .before .before .before .before .before in
     let hidden = sym (c .before .before .before .before .before .is-shown .ensures) ∙ c .before .before .before .before .if1 .left in
     let e = slot-hidden (s .args .observer) (slotAt (slotsIn (now (s .args .table))) (s .args .slot)) hidden in
-    let room : 2 ≤ length (now (s .args .out)) = rw e at (s .pre) in
+    let room : 2 ≤ length (now (s .args .out)) = rw e at (s .pre .1) in
     rw e (refl, omega arith, c .before .before .encode-u16 .ensures ∙ written-fits (0 ∷ 0 ∷ []) (now (s .args .out)) room)
 
 pub write-slot-spec : {M : Type 1} → statement M
 write-slot-spec =
     tie.close
     (tie.spec
-    (λ c κs. tt)
+    (λ c κs. c .before .pre .0)
     write-task-requires
     (λ c κs. tt)
     (λ c. omega arith)

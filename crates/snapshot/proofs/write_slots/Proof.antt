@@ -23,7 +23,7 @@ write-slot-requires c κs =
     let h = c .before .before .loop in
     let ss = slotsIn (now (s .args .table)) in
     let more : h .slot < length ss = omega (arith, length-slots (now (s .args .table))) in
-    item-part (shownSlot (s .args .observer)) ss (now (s .args .out)) (s .pre) unused more (h .inv .2)
+    (omega arith, item-part (shownSlot (s .args .observer)) ss (now (s .args .out)) (s .pre) unused more (h .inv .2))
 
 loop-again : tie.Need-loop-again Inv-loop μ-loop
 loop-again c =

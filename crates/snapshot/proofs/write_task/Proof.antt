@@ -11,6 +11,7 @@ use Rattle.wire.proofs.Output.{lent}
 use Rattle.image.proofs.Records.{length-registers}
 use Rattle.table.specs.Table.{slotsIn}
 use Rattle.table.specs.Change.{taskAt}
+use Rattle.table.proofs.Slots.{used-slot, used-registers}
 use Rattle.snapshot.specs.Writing.{shownMessage}
 use Rattle.snapshot.proofs.Writing.{task-shown, task-length}
 use Rattle.snapshot.proofs.write_task.Statement.{statement}
@@ -22,6 +23,7 @@ returns c =
     let s = f .before .before .before .before .before .before .before .before in
     let out = now (s .args .out) in
     let t = taskAt (slotsIn (now (s .args .table))) (s .args .slot) in
+    let eight = used-registers (now (s .args .table)) (s .args .slot) t (s .pre .0) in
     let mailbox = encodeItems (shownMessage (s .args .observer)) (t .mailbox) in
     let registers = encodeItems (encodeNumber 4) (t .registers) in
     let fields = encodeNumber 2 (37 + length mailbox) ++ t .kind ∷ t .label ∷ t .spare ∷ encodeNumber 2 (t .pc) in
@@ -29,29 +31,29 @@ returns c =
     let size = p .before .before .before .before .mailbox-size .ensures .0 in
     let first = rw (size, p .before .before .before .kind .ensures, p .before .before .label .ensures, p .before .spare .ensures, p .pc .ensures) at (f .write-fields .ensures) in
     let second = lent fields registers out 7 refl first (c .before .before .before .before .before .before .write-registers .ensures) in
-    let long : length (fields ++ registers) ≡ 39 = omega (arith, length-registers (t .registers), s .pre .0) in
+    let long : length (fields ++ registers) ≡ 39 = omega (arith, length-registers (t .registers), eight) in
     let third = lent (fields ++ registers) mailbox out 39 long second (c .before .before .write-mailbox .ensures) in
-    (ap (λ (n : ℕ). 39 + n) size ∙ sym (task-length (s .args .observer) t (s .pre .0)), omega arith, rw (task-shown (s .args .observer) t (s .pre .0)) third)
+    (ap (λ (n : ℕ). 39 + n) size ∙ sym (task-length (s .args .observer) t eight), omega arith, rw (task-shown (s .args .observer) t eight) third)
 
 pub write-task-spec : {M : Type 1} → statement M
 write-task-spec =
     tie.close
     (tie.spec
-    (λ c κs. tt)
-    (λ c κs. tt)
-    (λ c κs. tt)
-    (λ c κs. tt)
-    (λ c κs. tt)
+    (λ c κs. c .before .pre .0)
+    (λ c κs. omega (arith, used-slot _ _ (c .before .before .pre .0)))
+    (λ c κs. c .before .before .before .pre .0)
+    (λ c κs. c .before .before .before .before .pre .0)
+    (λ c κs. c .before .before .before .before .before .pre .0)
     (λ c. omega arith)
     (λ c κs. omega arith)
     (λ c. omega arith)
     (λ c. omega arith)
     (λ c. omega arith)
-    (λ c κs. omega arith)
+    (λ c κs. (omega arith, c .before .before .before .before .before .before .before .before .before .before .before .pre .0))
     (λ c. omega arith)
     (λ c. omega arith)
     (λ c. omega arith)
-    (λ c κs. omega arith)
+    (λ c κs. (c .before .before .before .before .before .before .before .before .before .before .before .before .before .before .before .pre .0, omega arith))
     (λ c. omega arith)
     (λ c. omega arith)
     returns)

@@ -42,7 +42,7 @@ returns c =
     let words = now (labels .result) in
     let mailbox = taskAt (slotsIn (now (a .t))) (a .s) .mailbox in
     keep-done (labelled (a .label)) words (h .i) (h .n) (omega arith) (h .inv .2)
-    ∙ keep-alike (λ x. eqb x (a .label)) (λ x. x % 256) (λ m. m .label) words mailbox (labels .ensures)
+    ∙ keep-alike (λ x. eqb x (a .label)) (λ x. x % 256) (λ m. m .label) words mailbox (labels .ensures .0)
 
 pub count-label-spec : {M : Type 1} → statement M
 count-label-spec =
@@ -50,7 +50,7 @@ count-label-spec =
     (tie.spec
     Inv-loop
     μ-loop
-    (λ c κs. tt)
+    (λ c κs. c .pre)
     (λ c. (omega arith, omega arith, sym (zero-add _)))
     (λ c. omega arith)
     (λ c. omega arith)

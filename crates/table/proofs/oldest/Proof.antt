@@ -30,7 +30,7 @@ found : (c : tie.After-labels Inv-loop μ-loop)
 found c =
     let a = c .before .args in
     let mailbox = taskAt (slotsIn (now (a .t))) (a .s) .mailbox in
-    first-alike (λ x. flows x (a .label)) (λ x. x % 256) (λ m. m .label) (now (c .labels .result)) mailbox (c .labels .ensures)
+    first-alike (λ x. flows x (a .label)) (λ x. x % 256) (λ m. m .label) (now (c .labels .result)) mailbox (c .labels .ensures .0)
 
 returns : tie.Need-returns Inv-loop μ-loop
 returns c =
@@ -58,7 +58,7 @@ oldest-spec =
     (tie.spec
     Inv-loop
     μ-loop
-    (λ c κs. tt)
+    (λ c κs. c .pre)
     (λ c. (omega arith, omega arith))
     (λ c. omega arith)
     (λ c. omega arith)

@@ -16,16 +16,18 @@ returns c =
     let label = spare .before .before in
     let kind = label .before .before in
     let cleared = kind .before .before in
-    let a = cleared .before .before .args in
+    let b = cleared .before .before in
+    let a = b .args in
     slots-set
     (stored-then
     (stored-then
     (stored-then (stored-then (cleared .clear-fields .ensures) (kind .put .ensures .1)) (label .put2 .ensures .1))
     (spare .put3 .ensures .1))
     (c .put4 .ensures .1))
+    (b .pre)
     (held (newTask (a .kind) (a .label) (a .spare) (a .pc)))
-    (λ l. ap held (task-stored (a .kind) (a .label) (a .spare) (a .pc) (window (now (a .t)) (a .s)) (omega arith) (omega arith) (omega arith)))
+    (ap held (task-stored (a .kind) (a .label) (a .spare) (a .pc) (window (now (a .t)) (a .s)) (omega arith) (omega arith) (omega arith)))
 
 pub put-task-spec : {M : Type 1} → statement M
 put-task-spec =
-    tie.close (tie.spec (λ c κs. tt) (λ c κs. omega arith) (λ c κs. omega arith) (λ c κs. omega arith) (λ c κs. omega arith) returns)
+    tie.close (tie.spec (λ c κs. omega arith) (λ c κs. omega arith) (λ c κs. omega arith) (λ c κs. omega arith) (λ c κs. omega arith) returns)

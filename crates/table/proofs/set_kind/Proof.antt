@@ -1,18 +1,16 @@
--- `table::set_kind` meets its contract: an unused slot is left as it was.
-use mathlib.Core.Path.{sym}
+-- `table::set_kind` meets its contract: the word that is stored is read as the kind alone.
 use native.Mathlib.Omega.{arith}
 use denote.Ref.{now}
-use Rattle.table.proofs.Held.{kind-slots, kind-kept}
+use Rattle.table.proofs.Held.{kind-slots}
+use Rattle.table.proofs.Slots.{used-slot}
 use Rattle.table.proofs.set_kind.Statement.{statement}
 use Rattle.table.proofs.set_kind.Tie as tie
 
 returns : tie.Need-returns
 returns c =
-    let a = c .before .before .before .before .before .args in
-    kind-slots (now (a .t)) (a .s) (a .x) (c .put .last .0) (c .put .ensures .0) (omega arith) (c .put .ensures .1) (omega arith)
-
-returns-2 : tie.Need-returns-2
-returns-2 c = let a = c .before .before .before .args in sym (kind-kept (now (a .t)) (a .s) (a .x) (omega arith))
+    let b = c .before .before in
+    let a = b .args in
+    kind-slots (now (a .t)) (c .put .last .0) (a .s) (a .x) (c .put .ensures .0) (omega arith) (c .put .ensures .1) (b .pre)
 
 pub set-kind-spec : {M : Type 1} → statement M
-set-kind-spec = tie.close (tie.spec (λ c κs. tt) (λ c κs. omega arith) returns returns-2)
+set-kind-spec = tie.close (tie.spec (λ c κs. omega (arith, used-slot _ _ (c .before .pre))) returns)

@@ -11,8 +11,9 @@ use Rattle.table.proofs.set_pc.Tie as tie
 
 returns : tie.Need-returns
 returns c =
-    let a = c .before .before .args in
-    slots-change (c .put .ensures .1) (c .put .ensures .0) (withPc (a .x)) (λ k. refl) (λ long. pc-stored (a .x) (window (now (a .t)) (a .s)) long)
+    let b = c .before .before in
+    let a = b .args in
+    slots-change (c .put .ensures .1) (b .pre) (c .put .ensures .0) (withPc (a .x)) (λ k. refl) (λ long. pc-stored (a .x) (window (now (a .t)) (a .s)) long)
 
 pub set-pc-spec : {M : Type 1} → statement M
 set-pc-spec = tie.close (tie.spec (λ c κs. omega arith) returns)

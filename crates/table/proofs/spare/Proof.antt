@@ -1,19 +1,19 @@
 -- `table::spare` meets its contract: the low byte of its word.
-use Prim.Native.Nat.{_%_}
+use Prim.Native.Nat.{ℕ, _%_}
 use borrow.Author.Needs.{needs}
-use mathlib.Core.Path.{refl}
+use mathlib.Core.Path.{ap}
 use native.Mathlib.Omega.{arith}
 use denote.Ref.{now}
 use Rattle.table.specs.Table.{taskIn}
-use Rattle.table.proofs.Slots.{field-read}
+use Rattle.table.proofs.Slots.{used-slot, used-task}
 use Rattle.table.proofs.spare.Statement.{statement}
 use Rattle.table.proofs.spare.Tie as tie
 
 returns : tie.Need-returns
 unfolding taskIn
 returns c =
-    let a = c .before .args in
-    rw (c .field .ensures .1) (field-read (now (a .t)) (a .s) (c .field .ensures .0) 2 (λ k. k .spare) (λ x. x % 256) refl refl)
+    let b = c .before in
+    rw (used-task (now (b .args .t)) (b .args .s) (b .pre)) (ap (λ (x : ℕ). x % 256) (c .word .ensures .1))
 
 pub spare-spec : {M : Type 1} → statement M
-spare-spec = tie.close (tie.spec (λ c κs. omega arith) (λ c. search needs) returns)
+spare-spec = tie.close (tie.spec (λ c κs. omega (arith, used-slot _ _ (c .pre))) (λ c. search needs) returns)

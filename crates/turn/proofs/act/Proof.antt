@@ -3,7 +3,7 @@ use mathlib.Core.Path.{_∙_}
 use native.Mathlib.Omega.{arith}
 use denote.Ref.{now}
 use Rattle.table.specs.Table.{slotsIn}
-use Rattle.turn.proofs.Steps.{was-decoded, act-ends, act-executes, place-within, valid-ready}
+use Rattle.turn.proofs.Steps.{live-here, was-decoded, act-ends, act-executes, place-within, valid-ready}
 use Rattle.turn.proofs.act.Statement.{statement}
 use Rattle.turn.proofs.act.Tie as tie
 
@@ -39,9 +39,9 @@ pub act-spec : {M : Type 1} → statement M
 act-spec =
     tie.close
     (tie.spec
-    (λ c κs. tt)
+    (λ c κs. let b = c .before .before in live-here (slotsIn (now (b .args .table))) (b .args .slot) (b .pre .1))
     (λ c. omega arith)
-    (λ c κs. tt)
+    (λ c κs. let b = c .before .before .before .before .before in live-here (slotsIn (now (b .args .table))) (b .args .slot) (b .pre .1))
     legal-at-requires
     execute-requires
     returns

@@ -2,15 +2,23 @@
 use mathlib.Core.Path.{refl}
 use native.Mathlib.Omega.{arith}
 use Rattle.machine.specs.State.{withSpare}
-use Rattle.table.proofs.Change.{change-keeps, change-change}
-use Rattle.turn.proofs.Effects.{sandbox-done, sandbox-stopped}
+use Rattle.table.proofs.Change.{change-change}
+use Rattle.table.proofs.Slots.{used-slot}
+use Rattle.turn.proofs.Effects.{sandbox-done, sandbox-stopped, goes-on, sound}
 use Rattle.turn.proofs.sandbox.Statement.{statement}
 use Rattle.turn.proofs.sandbox.Tie as tie
 
 gets-requires : tie.Need-gets-requires
 gets-requires c κs =
     let b = c .before .before .before .before .before .before .before .before in
-    rw (c .before .set-spare .ensures, change-keeps (λ t. t .pc) (withSpare _) (λ t. refl)) (b .pre .0 .place)
+    rw (c .before .set-spare .ensures) (goes-on (withSpare _) (λ t. refl) (b .pre .0 .goes), sound (b .pre .1) .0)
+
+spawn-requires : tie.Need-spawn-requires
+spawn-requires c κs =
+    let b = c .before .before .before .before .before .before .before .before .before .before in
+    let spare = c .before .before .before .before .before .before .before .before .spare in
+    let size = sound (b .pre .1) .2 .0 in
+    (omega (arith, spare .ensures, b .pre .0 .spare, size), size)
 
 returns : tie.Need-returns
 returns c =
@@ -29,15 +37,15 @@ pub sandbox-spec : {M : Type 1} → statement M
 sandbox-spec =
     tie.close
     (tie.spec
-    (λ c κs. tt)
-    (λ c κs. tt)
+    (λ c κs. c .before .pre .0 .goes .here)
+    (λ c κs. c .before .before .before .before .pre .0 .goes .here)
     (λ c. omega arith)
     (λ c. omega arith)
     (λ c. omega arith)
-    (λ c κs. tt)
+    (λ c κs. used-slot _ _ (c .before .before .before .before .before .before .pre .0 .goes .here))
     gets-requires
     (λ c. omega arith)
-    (λ c κs. c .before .before .before .before .before .before .before .before .before .before .pre .1)
-    (λ c κs. tt)
+    spawn-requires
+    (λ c κs. c .before .before .before .before .pre .0 .goes .here)
     returns
     returns-2)

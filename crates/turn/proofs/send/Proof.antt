@@ -2,14 +2,14 @@
 use mathlib.Core.Path.{refl, sym, _∙_}
 use Rattle.machine.specs.State.{next}
 use Rattle.table.proofs.Change.{change-keeps}
-use Rattle.turn.proofs.Effects.{send-done, send-stopped}
+use Rattle.turn.proofs.Effects.{send-done, send-stopped, sound}
 use Rattle.turn.proofs.send.Statement.{statement}
 use Rattle.turn.proofs.send.Tie as tie
 
 deliver-requires : tie.Need-deliver-requires
 deliver-requires c κs =
     let b = c .before .before .before .before .before .before .before .before .before .before .before in
-    rw (c .before .advance .ensures, change-keeps (λ t. t .mailbox) next (λ t. refl)) (b .pre .0 .room _ _ (b .pre .1))
+    rw (c .before .advance .ensures, change-keeps (λ t. t .mailbox) next (λ t. refl)) (b .pre .0 .room _ _ (sound (b .pre .1) .1))
 
 returns : tie.Need-returns
 returns c =
@@ -33,12 +33,12 @@ pub send-spec : {M : Type 1} → statement M
 send-spec =
     tie.close
     (tie.spec
+    (λ c κs. c .before .pre .0 .goes .here)
     (λ c κs. tt)
-    (λ c κs. tt)
-    (λ c κs. tt)
-    (λ c κs. tt)
-    (λ c κs. c .before .before .before .before .before .before .before .before .before .pre .0 .place)
+    (λ c κs. let b = c .before .before .before .before .before in (b .pre .0 .goes .here, sound (b .pre .1) .0))
+    (λ c κs. let b = c .before .before .before .before .before .before .before in (b .pre .0 .goes .here, sound (b .pre .1) .2))
+    (λ c κs. c .before .before .before .before .before .before .before .before .before .pre .0 .goes)
     deliver-requires
-    (λ c κs. tt)
+    (λ c κs. c .before .before .before .before .before .pre .0 .goes .here)
     returns
     returns-2)

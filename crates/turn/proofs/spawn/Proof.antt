@@ -8,4 +8,4 @@ returns : tie.Need-returns
 returns c = rw (c .set-register .ensures, c .before .before .put-task .ensures, change-set)
 
 pub spawn-spec : {M : Type 1} → statement M
-spawn-spec = tie.close (tie.spec (λ c. omega arith) (λ c κs. tt) (λ c κs. tt) returns)
+spawn-spec = tie.close (tie.spec (λ c. omega arith) (λ c κs. c .before .pre .0) (λ c κs. omega (arith, c .before .before .before .pre .0)) returns)

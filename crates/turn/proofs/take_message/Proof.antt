@@ -3,20 +3,18 @@ use mathlib.Core.Path.{refl}
 use native.Mathlib.Omega.{arith}
 use Rattle.machine.specs.State.{withRegister}
 use Rattle.table.specs.Change.{withoutMessage}
-use Rattle.table.proofs.Change.{change-keeps, change-change}
+use Rattle.table.proofs.Change.{change-change}
+use Rattle.table.proofs.Slots.{used-slot}
+use Rattle.turn.proofs.Effects.{goes-on}
 use Rattle.turn.proofs.take_message.Statement.{statement}
 use Rattle.turn.proofs.take_message.Tie as tie
 
 gets-requires : tie.Need-gets-requires
 gets-requires c κs =
     let b = c .before .before .before .before .before .before .before .before .before in
-    rw (
-      c .before .set-register .ensures,
-      change-keeps (λ t. t .pc) (withRegister _ _) (λ t. refl),
-      c .before .before .before .remove .ensures,
-      change-keeps (λ t. t .pc) (withoutMessage _) (λ t. refl),
-    )
-    (b .pre)
+    let value = c .before .before .before .before .before .before .before .message-value .result in
+    rw (c .before .set-register .ensures, c .before .before .before .remove .ensures)
+    (goes-on (withRegister (b .args .a) value) (λ t. refl) (goes-on (withoutMessage (b .args .i)) (λ t. refl) (b .pre .0)), b .pre .3)
 
 returns : tie.Need-returns
 returns c =
@@ -34,4 +32,12 @@ returns c =
 
 pub take-message-spec : {M : Type 1} → statement M
 take-message-spec =
-    tie.close (tie.spec (λ c κs. tt) (λ c κs. tt) (λ c κs. tt) (λ c κs. tt) (λ c. omega arith) gets-requires returns)
+    tie.close
+    (tie.spec
+    (λ c κs. c .before .pre .1)
+    (λ c κs. c .before .before .before .pre .1)
+    (λ c κs. c .before .before .before .before .before .pre .1)
+    (λ c κs. let b = c .before .before .before .before .before .before .before in (used-slot _ _ (b .pre .0 .here), b .pre .2))
+    (λ c. omega arith)
+    gets-requires
+    returns)

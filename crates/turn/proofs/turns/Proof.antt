@@ -1,90 +1,68 @@
 -- `turn::turns` meets its contract: with `left` turns left the table holds the state after the others.
-use Prim.Native.Nat.{ℕ, _+_, _-_, _≤_}
-use mathlib.Core.Path.{_≡_, sym, ap, _∙_}
+use Prim.Native.Nat.{_+_, _-_, _≤_}
+use mathlib.Core.Path.{_≡_, ap}
 use native.Mathlib.Omega.{arith}
+use borrow.Author.Tests.{leb-true}
 use denote.Ref.{now}
 use Rattle.machine.specs.State.{State}
-use Rattle.machine.specs.Machine as Machine
-use Rattle.machine.proofs.Machine.{turns-none, turns-add, busy-none, busy-add, busy-most}
-use Rattle.table.specs.Table.{stateIn}
-use Rattle.turn.proofs.Steps.{valid-after, slot-after}
+use Rattle.machine.proofs.Machine.{busy-most}
+use Rattle.machine.proofs.Bounds.{valid-sixteen, valid-within}
+use Rattle.table.specs.Table.{slotsIn, stateIn}
+use Rattle.turn.proofs.Steps.{Ran, ran-none, ran-round, ran-valid, ran-within}
 use Rattle.turn.proofs.turns.Statement.{statement}
 use Rattle.turn.proofs.turns.Tie as tie
 
 abbrev Inv-loop : tie.InvT-loop
-Inv-loop table₀ program first n slot₀ busy₀ left₀ table slot busy left =
-    (left ≤ n)
-    × (stateIn program slot table ≡ Machine.turns (n - left) (stateIn program first table₀))
-    × (busy ≡ Machine.busy (n - left) (stateIn program first table₀))
+Inv-loop table₀ program first n slot₀ busy₀ left₀ bottom top table slot busy left =
+    (left ≤ n) × Ran (stateIn program first table₀) program (n - left) slot (slotsIn table) busy
 
 abbrev μ-loop : tie.MeasureT-loop
-μ-loop table₀ program first n slot₀ busy₀ left₀ table slot busy left = left
+μ-loop table₀ program first n slot₀ busy₀ left₀ bottom top table slot busy left = left
 
 loop-holds : tie.Need-loop-holds Inv-loop μ-loop
-loop-holds c = let none : c .before .args .n - c .before .args .n ≡ 0 = omega arith in rw none (omega arith, turns-none _, sym (busy-none _))
+loop-holds c =
+    let a = c .before .before .before .before .before .args in
+    let none : a .n - a .n ≡ 0 = omega arith in
+    rw none (omega arith, ran-none (stateIn (now (a .program)) (a .first) (now (a .table))))
 
-round-end-requires : tie.Need-round-end-requires Inv-loop μ-loop
-round-end-requires c κs =
-    let h = c .before .loop in
-    let b = c .before .before .before in
-    slot-after _ _ (b .args .n - h .left) (b .pre) (h .inv .1)
+slot-low : (c : tie.At-loop Inv-loop μ-loop) → c .loop .slot ≤ 15
+slot-low c = leb-true (c .loop .slot) 15 (ran-valid (c .loop .inv .1) (c .before .before .before .before .before .before .pre) .turnSlot)
 
 round-requires : tie.Need-round-requires Inv-loop μ-loop
 round-requires c κs =
     let h = c .before .before .before .loop in
-    let b = c .before .before .before .before .before in
-    let i = b .args .n - h .left in
-    let slot = slot-after _ _ i (b .pre) (h .inv .1) in
-    (valid-after _ _ i (b .pre) (h .inv .1), omega (arith, c .before .round-end .ensures, slot), omega (arith, c .before .round-end .ensures))
+    let b = c .before .before .before .before .before .before .before .before .before in
+    let ran = h .inv .1 in
+    let end = c .before .round-end .ensures in
+    let within = valid-within (stateIn (now (b .args .program)) (b .args .first) (now (b .args .table))) (b .pre) in
+    (ran-valid ran (b .pre), omega (arith, end, slot-low (c .before .before .before)), omega (arith, end), rw (c .before .before .before .before .before .before .bottom .ensures, c .before .before .before .before .top .ensures) (ran-within ran _ _ within))
 
 add-busy : tie.Need-add-busy Inv-loop μ-loop
 add-busy c =
     let h = c .before .before .before .before .loop in
-    let b = c .before .before .before .before .before .before in
-    let a = b .args in
+    let a = c .before .before .before .before .before .before .before .before .before .before .args in
     let end = c .before .before .round-end in
     let met = busy-most (a .n - h .left) (stateIn (now (a .program)) (a .first) (now (a .table))) in
     let meets = busy-most (end .result - h .slot) (stateIn (now (a .program)) (h .slot) (h .table)) in
-    omega (arith, end .ensures, h .inv .2, met, c .round .ensures .0, meets)
-
-sub-left : tie.Need-sub-left Inv-loop μ-loop
-sub-left c =
-    let h = c .before .before .before .before .loop in
-    let b = c .before .before .before .before .before .before in
-    omega (arith, c .before .before .round-end .ensures, slot-after _ _ (b .args .n - h .left) (b .pre) (h .inv .1))
-
-loop-less : tie.Need-loop-less Inv-loop μ-loop
-loop-less c =
-    let h = c .before .before .before .before .before .loop in
-    let b = c .before .before .before .before .before .before .before in
-    omega (arith, c .before .before .before .round-end .ensures, slot-after _ _ (b .args .n - h .left) (b .pre) (h .inv .1))
+    omega (arith, end .ensures, h .inv .1 .met-is, met, c .round .ensures .0, meets)
 
 loop-again : tie.Need-loop-again Inv-loop μ-loop
 loop-again c =
     let h = c .before .before .before .before .before .loop in
-    let b = c .before .before .before .before .before .before .before in
-    let a = b .args in
-    let start = stateIn (now (a .program)) (a .first) (now (a .table)) in
+    let a = c .before .before .before .before .before .before .before .before .before .before .before .args in
     let end = c .before .before .before .round-end in
     let k = end .result - h .slot in
-    let i = a .n - h .left in
     let r = c .before .round in
-    let slot = slot-after _ _ i (b .pre) (h .inv .1) in
-    let more : a .n - (h .left - k) ≡ i + k = omega (arith, end .ensures, slot) in
-    rw (more, turns-add i k start, busy-add i k start, ← h .inv .1, c .next-slot .ensures) (
-      omega arith,
-      r .ensures .1,
-      ap (λ (n : ℕ). n + r .result) (h .inv .2) ∙ ap (λ (n : ℕ). Machine.busy i start + n) (r .ensures .0),
-    )
+    let more : a .n - (h .left - k) ≡ a .n - h .left + k = omega (arith, end .ensures, slot-low (c .before .before .before .before .before), h .inv .0) in
+    (omega (arith, h .inv .0), rw (more, c .next-slot .ensures) (ran-round (h .inv .1) k _ _ _ (r .ensures .0) (r .ensures .1)))
 
 returns : tie.Need-returns Inv-loop μ-loop
 returns c =
     let h = c .before .loop in
-    let a = c .before .before .before .args in
+    let a = c .before .before .before .before .before .before .before .args in
     let all : a .n - h .left ≡ a .n = omega arith in
-    let state = rw all at (h .inv .1) in
-    let counted = rw all at (h .inv .2) in
-    (λ i. record { turn = state i .turnSlot; busy = counted i }, ap (λ (s : State). s .slots) state)
+    let ran = rw all at (h .inv .1) in
+    (λ i. record { turn = ran .state i .turnSlot; busy = ran .met-is i }, ap (λ (s : State). s .slots) (ran .state))
 
 pub turns-spec : {M : Type 1} → statement M
 turns-spec =
@@ -92,14 +70,16 @@ turns-spec =
     (tie.spec
     Inv-loop
     μ-loop
+    (λ c κs. tt)
+    (λ c κs. valid-sixteen _ (c .before .before .before .before .pre))
     loop-holds
-    round-end-requires
+    (λ c κs. slot-low (c .before))
     round-requires
     add-busy
-    sub-left
+    (λ c. omega (arith, c .before .before .round-end .ensures, slot-low (c .before .before .before .before)))
     (λ c. omega (arith, c .before .before .round-end .ensures))
     (λ c. omega (arith, c .before .before .round-end .ensures))
     (λ c κs. omega (arith, c .before .before .round-end .ensures))
-    loop-less
+    (λ c. omega (arith, c .before .before .before .round-end .ensures, slot-low (c .before .before .before .before .before)))
     loop-again
     returns)
