@@ -98,9 +98,10 @@ pub fn view(image: &[u8], observer: u32, out: &mut [u8]) -> Answer
     if observer > 15 {
         return refused(1);
     }
-    let mut table: table::Table = [0; table::WORDS];
-    let number = snapshot::load(&mut table, image);
+    let number = image::number(image);
     if number == 0 {
+        let mut table: table::Table = [0; table::WORDS];
+        snapshot::load(&mut table, image);
         let turn = image::turn_slot(image);
         write_answer(out, &table, image, turn, observer as u8, 0)
     } else {
@@ -125,9 +126,10 @@ pub fn turns(image: &[u8], count: u64, out: &mut [u8]) -> Answer
     if count > TURN_LIMIT {
         return refused(2);
     }
-    let mut table: table::Table = [0; table::WORDS];
-    let number = snapshot::load(&mut table, image);
+    let number = image::number(image);
     if number == 0 {
+        let mut table: table::Table = [0; table::WORDS];
+        snapshot::load(&mut table, image);
         let turn = image::turn_slot(image);
         let ran = turn::turns(&mut table, image::program(image), turn, count);
         write_answer(out, &table, image, ran.turn, 15, ran.busy)
@@ -167,9 +169,10 @@ pub fn post(image: &[u8], slot: u32, label: u32, value: u32, out: &mut [u8]) -> 
     if beyond > 0 {
         return post_answer(refused(beyond), false);
     }
-    let mut table: table::Table = [0; table::WORDS];
-    let number = snapshot::load(&mut table, image);
+    let number = image::number(image);
     if number == 0 {
+        let mut table: table::Table = [0; table::WORDS];
+        snapshot::load(&mut table, image);
         let joined = turn::deliver(&mut table, slot, label as u8, image::HOST, value);
         let turn = image::turn_slot(image);
         post_answer(write_answer(out, &table, image, turn, 15, 0), joined)

@@ -1,7 +1,7 @@
 -- The steps of loading make the task of each record and the slots of the image, and an accepted image can be loaded.
 use Prim.Native.Nat.{ℕ, zero, suc, _+_, _-_, _*_, _/_, _≤_, _<_}
 use mathlib.Core.Path.{_≡_, refl, sym, ap, _∙_}
-use mathlib.Core.List.{List, [], _∷_, _++_, append-nil}
+use mathlib.Core.List.{List, [], _++_, append-nil}
 use native.Mathlib.Numerals.{add-one}
 use native.Mathlib.Omega.{arith}
 use borrow.Author.Tests.{ne-eqb}
@@ -26,7 +26,7 @@ use Rattle.image.proofs.Records.{slot-some, task-length}
 use Rattle.table.specs.Table.{held}
 use Rattle.table.specs.Change.{taskAt, Used, changeSlot, change, withMessage, newTask}
 use Rattle.table.proofs.Change.{change-none, change-set, change-at, change-change}
-use Rattle.snapshot.specs.Loading.{Loadable, LoadableSlots, loaded, registersSet, messagesAdded}
+use Rattle.snapshot.specs.Loading.{Loadable, LoadableSlots, registersSet, messagesAdded}
 
 -- what is lent from index k on
 pub from-on : (k : ℕ) (xs : List ℕ) → take (length xs - k) (drop k xs) ≡ drop k xs
@@ -144,12 +144,6 @@ load-next b ys k r ss h l e f =
 -- ---- an accepted image
 
 module _ (b : List ℕ) where
-  pub loaded-accepted : (ss : List Slot) → imageNumber b ≡ 0 → loaded b ss ≡ stateOf b .slots
-  loaded-accepted ss e = rw e
-
-  pub loaded-refused : (ss : List Slot) → (imageNumber b ≡ 0 → ⊥) → loaded b ss ≡ ss
-  loaded-refused ss h = rw (ne-eqb (imageNumber b) 0 h)
-
   -- its tasks have a kind, and their mailboxes no more than 64 messages
   pub accepted-loadable : Bytes b → imageNumber b ≡ 0 → LoadableSlots (slotsPart b)
   unfolding stateOf

@@ -1,12 +1,9 @@
 -- The parts of a view: what is written of a message, a task and a slot, and how long it is.
 use Prim.Native.Nat.{ℕ, _+_, _*_}
-use mathlib.Core.Logic.{_≢_}
 use mathlib.Core.Path.{_≡_, refl, sym, ap, _∙_}
-use mathlib.Core.Bool.{Bool, true, false, not, _&&_}
+use mathlib.Core.Bool.{Bool, true, false}
 use mathlib.Core.List.{List, [], _∷_, _++_}
 use native.Mathlib.Omega.{arith}
-use borrow.Author.Tests.{ne-eqb}
-use lib.Dec.{eqb}
 use lib.ListN.{length, length-append}
 use lib.Seq.{append-snoc}
 use Rattle.label.specs.Label.{flows}
@@ -103,7 +100,7 @@ slot-shown v x e = ap slotBytes (viewSlot-shown v x e)
 
 -- a slot in the table that the observer sees
 module _ (words : List ℕ) (s v : ℕ) (shown : isShown v (slotAt (slotsIn words) s) ≡ true) where
-  pub shown-registers : length (taskAt (slotsIn words) s .registers) ≡ 8
+  shown-registers : length (taskAt (slotsIn words) s .registers) ≡ 8
   shown-registers = used-registers words s (taskAt (slotsIn words) s) (shown-used v (slotsIn words) s shown)
 
   pub shown-length : length (shownSlot v (slotAt (slotsIn words) s)) ≡ 39 + length (encodeItems (shownMessage v) (taskAt (slotsIn words) s .mailbox))

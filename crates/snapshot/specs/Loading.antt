@@ -1,20 +1,13 @@
 -- What loading an image does to the table's slots.
 use Prim.Native.Nat.{ℕ, zero, suc, _*_, _/_, _<_, _≤_}
-use mathlib.Core.Bool.{cond}
 use mathlib.Core.List.{List}
-use lib.Dec.{eqb}
 use lib.ListN.{length, getD, drop}
 use Rattle.wire.specs.Numbers.{decodeNumber}
-use Rattle.machine.specs.State.{Task, Slot, withRegister}
+use Rattle.machine.specs.State.{Task, withRegister}
 use Rattle.image.specs.Record.{kindAt, mailboxAt, messageSize, messageOf}
-use Rattle.image.specs.Image.{recordOf, skip, stateOf}
-use Rattle.image.specs.Refusal.{imageNumber}
+use Rattle.image.specs.Image.{recordOf, skip}
 use Rattle.table.specs.Table.{mailboxRoom}
 use Rattle.table.specs.Change.{withMessage}
-
--- the image's slots where it is accepted; a refused one changes nothing
-abbrev pub loaded : List ℕ → List Slot → List Slot
-loaded image ss = cond (eqb (imageNumber image) 0) (stateOf image .slots) ss
 
 -- registers 0 to k - 1 as b has them, one set after another
 unfoldable pub registersSet : ℕ → List ℕ → Task → Task

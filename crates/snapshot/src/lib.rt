@@ -11,11 +11,11 @@ ghost use Rattle.label.specs.Label.{flows};
 ghost use Rattle.machine.specs.State.{used, slotAt};
 ghost use Rattle.machine.specs.View.{viewTask};
 ghost use Rattle.image.specs.Record.{taskOf, slotOf, messageBytes, messageSize};
-ghost use Rattle.image.specs.Image.{slotsOf};
+ghost use Rattle.image.specs.Image.{slotsOf, stateOf};
 ghost use Rattle.image.specs.Refusal.{imageNumber};
 ghost use Rattle.table.specs.Table.{mailboxRoom, slotsIn};
 ghost use Rattle.table.specs.Change.{taskAt, Used, messageAt, change};
-ghost use Rattle.snapshot.specs.Loading.{Loadable, LoadableSlot, LoadableSlots, loaded, registersSet, messagesAdded};
+ghost use Rattle.snapshot.specs.Loading.{Loadable, LoadableSlot, LoadableSlots, registersSet, messagesAdded};
 ghost use Rattle.snapshot.specs.Writing.{snapshotBytes, headBytes, shownSlot, shownTask, shownMessage, isShown};
 
 // ---- load
@@ -101,15 +101,12 @@ fn load_slots(table: &mut table::Table, slots: &[u8])
     }
 }
 
-// Checks an image and loads it, where it is accepted, into the table: the number of the image.
-pub fn load(table: &mut table::Table, image: &[u8]) -> u8
-    ensures { λ r. ⌜ (r ≡ imageNumber (now (image .entry))) × (slotsIn (now (table .exit)) ≡ loaded (now (image .entry)) (slotsIn (now (table .entry)))) ⌝ }
+// Loads an accepted image into the table.
+pub fn load(table: &mut table::Table, image: &[u8])
+    requires { ⌜ imageNumber (now image) ≡ 0 ⌝ }
+    ensures { λ _. ⌜ slotsIn (now (table .exit)) ≡ stateOf (now (image .entry)) .slots ⌝ }
 {
-    let number = image::number(image);
-    if number == 0 {
-        load_slots(table, image::slots_part(image));
-    }
-    number
+    load_slots(table, image::slots_part(image));
 }
 
 // ---- what an observer sees

@@ -73,12 +73,7 @@ slot-any P none some t s =
 pub kind-none : (t : List ℕ) (s : ℕ) → taskAt (slotsIn t) s .kind ≡ 0 → slotAt (slotsIn t) s ≡ unused
 kind-none = slot-any (λ x. taskOr x .kind ≡ 0 → x ≡ unused) (λ _. refl) (λ w some none. absurd (some none))
 
--- a task in the table has a kind, and eight registers
-pub used-kind : (t : List ℕ) (s : ℕ) (k : Task) → slotAt (slotsIn t) s ≡ used k → k .kind ≢ 0
-used-kind =
-    slot-any (λ x. (k : Task) → x ≡ used k → k .kind ≢ 0) (λ k e. let z : _≡_ {A = ℕ} 0 1 = cc in absurd (omega arith))
-    (λ w some k e. let same : taskIn w ≡ k = cc in rw same at some)
-
+-- a task in the table has eight registers
 pub used-registers : (t : List ℕ) (s : ℕ) (k : Task) → slotAt (slotsIn t) s ≡ used k → length (k .registers) ≡ 8
 unfolding taskIn
 used-registers =

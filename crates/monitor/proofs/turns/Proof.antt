@@ -15,7 +15,6 @@ use Rattle.image.specs.Image.{stateOf}
 use Rattle.image.specs.Refusal.{imageNumber}
 use Rattle.table.specs.Table.{stateIn}
 use Rattle.snapshot.specs.Writing.{snapshotBytes}
-use Rattle.snapshot.proofs.Loading.{loaded-accepted}
 use Rattle.turn.specs.declared.RunAnswer.{RunAnswer}
 use Rattle.turn.specs.Answer.{runTold}
 use Rattle.monitor.proofs.Calls.{call-beyond, call-refused, call-accepted}
@@ -23,25 +22,23 @@ use Rattle.monitor.proofs.Pipeline.{state-loaded, loaded-valid, turns-w
 use Rattle.monitor.proofs.turns.Statement.{statement}
 use Rattle.monitor.proofs.turns.Tie as tie
 
--- ---- where an image that was loaded is to be run
+-- ---- where an image that is accepted is loaded and run
+
+accepted : (c : tie.Then2) → imageNumber (now (c .before .before .before .before .before .args .image)) ≡ 0
+accepted c = sym (c .before .number .ensures) ∙ c .if2 .taken
 
 module _ (p : tie.After-program) where
   abbrev image : List ℕ
-  image = now (p .before .before .before .before .before .before .before .before .before .args .image)
+  image = now (p .before .before .before .before .before .before .before .before .before .before .args .image)
 
   bytes : Bytes image
-  bytes = every-of IsByte 0 image (λ i. p .before .before .before .before .before .before .before .before .shared-slice-known .given i .fits)
+  bytes = every-of IsByte 0 image (λ i. p .before .before .before .before .before .before .before .before .before .shared-slice-known .given i .fits)
 
-  accepted : imageNumber image ≡ 0
-  accepted = sym (p .before .before .before .before .load .ensures .0) ∙ p .before .before .before .if2 .taken
-
-  same : stateIn (now (p .program .result)) (p .before .before .turn-slot .result) (p .before .before .before .before .load .last .0) ≡ stateOf image
-  same =
-      state-loaded image _ _ _ (p .program .ensures) (p .before .before .turn-slot .ensures)
-      (p .before .before .before .before .load .ensures .1 ∙ loaded-accepted image _ accepted)
+  same : stateIn (now (p .program .result)) (p .before .before .turn-slot .result) (p .before .before .before .load .last .0) ≡ stateOf image
+  same = state-loaded image _ _ _ (p .program .ensures) (p .before .before .turn-slot .ensures) (p .before .before .before .load .ensures)
 
 turns-requires : tie.Need-turns-requires
-turns-requires c κs = loaded-valid (image c) (bytes c) (accepted c) (same c)
+turns-requires c κs = loaded-valid (image c) (bytes c) (accepted (c .before .before .before .before .before)) (same c)
 
 -- ---- the answers
 
@@ -56,20 +53,20 @@ returns-2 : tie.Need-returns-2
 returns-2 c =
     let r = c .before .before .before .before .before .turns in
     let p = c .before .before .before .before .before .before in
-    let n = p .before .before .before .before .before .before .before .before .before .args .count in
+    let n = p .before .before .before .before .before .before .before .before .before .before .args .count in
     let told = r .ensures .0 ∙ ap (runTold n) (same p) in
     let ran = r .ensures .1 ∙ ap (λ (s : State). Machine.turns n s .slots) (same p) in
     let written =
     ap (λ (x : RunAnswer). snapshotBytes (r .last .0) (image p) (x .turn) 15) told
-    ∙ turns-written (image p) (bytes p) (r .last .0) (accepted p) n ran in
+    ∙ turns-written (image p) (bytes p) (r .last .0) (accepted (p .before .before .before .before .before)) n ran in
     let within = le-leb n turnLimit (omega arith) in
-    call-accepted _ _ (rw within) (accepted p) written (ap (λ (x : RunAnswer). x .busy) told) (c .before .before .write-answer .ensures)
+    call-accepted _ _ (rw within) (accepted (p .before .before .before .before .before)) written (ap (λ (x : RunAnswer). x .busy) told) (c .before .before .write-answer .ensures)
 
 -- a refused one
 returns-3 : tie.Need-returns-3
 returns-3 c =
-    let within = le-leb (c .before .before .before .before .before .before .before .args .count) turnLimit (omega arith) in
-    call-refused _ _ (rw within) (c .before .before .load .ensures .0) (c .before .if2 .left) (c .refused2 .ensures)
+    let within = le-leb (c .before .before .before .before .before .before .args .count) turnLimit (omega arith) in
+    call-refused _ _ (rw within) (c .before .before .number .ensures) (c .before .if2 .left) (c .refused2 .ensures)
 
 pub turns-spec : {M : Type 1} → statement M
 turns-spec =
@@ -78,6 +75,7 @@ turns-spec =
     (λ c κs. tt)
     returns
     (λ c κs. tt)
+    (λ c κs. accepted (c .before))
     (λ c κs. tt)
     (λ c κs. tt)
     turns-requires

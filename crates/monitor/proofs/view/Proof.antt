@@ -1,13 +1,13 @@
 -- `monitor::view` meets its contract: an accepted image is loaded, and written for the observer.
 use borrow.Author.Needs.{needs}
 use Prim.Native.Nat.{ℕ}
-use mathlib.Core.Path.{refl, sym, ap, _∙_}
+use mathlib.Core.Path.{_≡_, refl, sym, ap, _∙_}
 use native.Mathlib.Omega.{arith}
 use borrow.Author.Tests.{le-leb, lt-leb}
 use denote.Ref.{now}
 use Rattle.machine.specs.Limits.{highestLabel}
+use Rattle.image.specs.Refusal.{imageNumber}
 use Rattle.snapshot.specs.Writing.{snapshotBytes}
-use Rattle.snapshot.proofs.Loading.{loaded-accepted}
 use Rattle.monitor.proofs.Calls.{call-beyond, call-refused, call-accepted}
 use Rattle.monitor.proofs.Pipeline.{view-written}
 use Rattle.monitor.proofs.view.Statement.{statement}
@@ -20,24 +20,25 @@ returns c =
     call-beyond _ _ (rw above) (λ e. omega arith) (c .refused .ensures)
 
 -- an accepted image
+accepted : (c : tie.Then2) → imageNumber (now (c .before .before .before .before .before .args .image)) ≡ 0
+accepted c = sym (c .before .number .ensures) ∙ c .if2 .taken
+
 returns-2 : tie.Need-returns-2
 returns-2 c =
     let t = c .before .before .before .before .before in
-    let l = t .before .before in
-    let a = l .before .before .before .before .before .args in
+    let l = t .before in
+    let a = c .before .before .before .before .before .before .before .before .before .before .before .before .before .args in
     let image = now (a .image) in
     let words = l .load .last .0 in
-    let accepted = sym (l .load .ensures .0) ∙ t .before .if2 .taken in
-    let loaded = l .load .ensures .1 ∙ loaded-accepted image _ accepted in
-    let same = ap (λ (s : ℕ). snapshotBytes words image s (a .observer)) (t .turn-slot .ensures) ∙ view-written image words (a .observer) loaded in
+    let same = ap (λ (s : ℕ). snapshotBytes words image s (a .observer)) (t .turn-slot .ensures) ∙ view-written image words (a .observer) (l .load .ensures) in
     let seen = le-leb (a .observer) highestLabel (omega arith) in
-    call-accepted _ _ (rw seen) accepted same refl (c .before .before .write-answer .ensures)
+    call-accepted _ _ (rw seen) (accepted (c .before .before .before .before .before .before .before .before)) same refl (c .before .before .write-answer .ensures)
 
 -- a refused one
 returns-3 : tie.Need-returns-3
 returns-3 c =
-    let seen = le-leb (c .before .before .before .before .before .before .before .args .observer) highestLabel (omega arith) in
-    call-refused _ _ (rw seen) (c .before .before .load .ensures .0) (c .before .if2 .left) (c .refused2 .ensures)
+    let seen = le-leb (c .before .before .before .before .before .before .args .observer) highestLabel (omega arith) in
+    call-refused _ _ (rw seen) (c .before .before .number .ensures) (c .before .if2 .left) (c .refused2 .ensures)
 
 pub view-spec : {M : Type 1} → statement M
 view-spec =
@@ -46,6 +47,7 @@ view-spec =
     (λ c κs. tt)
     returns
     (λ c κs. tt)
+    (λ c κs. accepted (c .before))
     (λ c κs. tt)
     (λ c. search needs)
     (λ c κs. tt)

@@ -8,7 +8,6 @@ use Rattle.wire.proofs.Lists.{IsByte, every-of}
 use Rattle.machine.specs.Limits.{highestLabel}
 use Rattle.image.specs.Image.{stateOf}
 use Rattle.image.specs.Refusal.{imageNumber}
-use Rattle.snapshot.proofs.Loading.{loaded-accepted}
 use Rattle.monitor.proofs.Calls.{call-beyond, call-refused, call-accepted}
 use Rattle.sheet.specs.Sheet.{sheetBytes}
 use Rattle.sheet.specs.Inner.{shownSheet}
@@ -23,32 +22,29 @@ returns c =
     call-beyond _ _ (rw above) (λ e. omega arith) (c .refused .ensures)
 
 -- an accepted image: the number, and the sheet of the table
-accepted : (c : tie.Then2) → imageNumber (now (c .before .before .before .before .before .before .args .image)) ≡ 0
-accepted c = sym (c .before .load .ensures .0) ∙ c .if2 .taken
+accepted : (c : tie.Then2) → imageNumber (now (c .before .before .before .before .before .args .image)) ≡ 0
+accepted c = sym (c .before .number .ensures) ∙ c .if2 .taken
 
-same : (c : tie.Then2) → let a = c .before .before .before .before .before .before .args in
-    shownSheet (a .observer) (c .before .load .last .0) ≡ sheetBytes (a .observer) (now (a .image))
-same c =
-    let a = c .before .before .before .before .before .before .args in
-    sheet-shown (a .observer) (c .before .load .last .0) (stateOf (now (a .image))) (c .before .load .ensures .1 ∙ loaded-accepted (now (a .image)) _ (accepted c))
+same : (c : tie.After-load) → let a = c .before .before .before .before .before .before .before .args in shownSheet (a .observer) (c .load .last .0) ≡ sheetBytes (a .observer) (now (a .image))
+same c = let a = c .before .before .before .before .before .before .before .args in sheet-shown (a .observer) (c .load .last .0) (stateOf (now (a .image))) (c .load .ensures)
 
 write-answer-requires : tie.Need-write-answer-requires
 write-answer-requires c κs =
-    let a = c .before .before .before .before .before .before .before .before .args in
-    let bytes = every-of IsByte 0 (now (a .image)) (λ i. c .before .before .before .before .before .before .before .shared-slice-known .given i .fits) in
-    rw (same (c .before .before)) (sheet-fits (a .observer) (now (a .image)) bytes (accepted (c .before .before)))
+    let a = c .before .before .before .before .before .before .before .before .before .args in
+    let bytes = every-of IsByte 0 (now (a .image)) (λ i. c .before .before .before .before .before .before .before .before .shared-slice-known .given i .fits) in
+    rw (same (c .before .before)) (sheet-fits (a .observer) (now (a .image)) bytes (accepted (c .before .before .before .before)))
 
 returns-2 : tie.Need-returns-2
 returns-2 c =
     let t = c .before .before .before .before .before in
-    let seen = le-leb (c .before .before .before .before .before .before .before .before .before .before .before .args .observer) highestLabel (omega arith) in
-    call-accepted _ _ (rw seen) (accepted t) (same t) refl (c .before .before .write-answer .ensures)
+    let seen = le-leb (c .before .before .before .before .before .before .before .before .before .before .before .before .args .observer) highestLabel (omega arith) in
+    call-accepted _ _ (rw seen) (accepted (t .before .before)) (same t) refl (c .before .before .write-answer .ensures)
 
 -- a refused one
 returns-3 : tie.Need-returns-3
 returns-3 c =
-    let seen = le-leb (c .before .before .before .before .before .before .before .args .observer) highestLabel (omega arith) in
-    call-refused _ _ (rw seen) (c .before .before .load .ensures .0) (c .before .if2 .left) (c .refused2 .ensures)
+    let seen = le-leb (c .before .before .before .before .before .before .args .observer) highestLabel (omega arith) in
+    call-refused _ _ (rw seen) (c .before .before .number .ensures) (c .before .if2 .left) (c .refused2 .ensures)
 
 pub write-spec : {M : Type 1} → statement M
 write-spec =
@@ -57,6 +53,7 @@ write-spec =
     (λ c κs. tt)
     returns
     (λ c κs. tt)
+    (λ c κs. accepted (c .before))
     (λ c. search needs)
     write-answer-requires
     (λ c κs. tt)

@@ -1,5 +1,5 @@
 -- `snapshot::is_shown` meets its contract: a task in the table has a kind other than 0.
-use mathlib.Core.Path.{sym, _∙_}
+use mathlib.Core.Path.{_∙_}
 use native.Mathlib.Omega.{arith}
 use denote.Ref.{now}
 use Rattle.table.specs.Table.{slotsIn}
