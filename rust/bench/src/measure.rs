@@ -6,8 +6,8 @@ use rithennaw::IMAGE_MAX;
 use std::hint::black_box;
 use std::time::Duration;
 
-/// How often each is timed, one after the other; the best time counts.
-pub const RUNS: usize = 25;
+/// How often each is timed in a round, one after the other; the best time counts.
+pub const RUNS: usize = 8;
 
 /// The best times of a call, and what it told and wrote.
 pub struct Measured {
@@ -15,13 +15,6 @@ pub struct Measured {
     pub reference: Duration,
     pub answer: Answer,
     pub written: Vec<u8>,
-}
-
-impl Measured {
-    /// The monitor's time as a multiple of the reference's.
-    pub fn ratio(&self) -> f64 {
-        self.monitor.as_secs_f64() / self.reference.as_secs_f64()
-    }
 }
 
 /// Times `repeats` calls in a row by the monitor and the reference; an error if a call is refused or the two differ.
