@@ -3,12 +3,15 @@
 //!
 //! bench [NAME=PROGRAM...]: measures with these programs, which are this one in other layouts, or with itself alone.
 //! bench measure: what each of them is started with.
+//! bench count IMPLEMENTATION CALL NUMBER: what the first is started with below valgrind, its input on standard input.
 
 mod cases;
 mod clock;
+mod counted;
 mod figure;
 mod full_mailboxes;
 mod images;
+mod instructions;
 mod layouts;
 mod light_mailboxes;
 mod long_texts;
@@ -21,8 +24,10 @@ mod spread;
 mod tally;
 mod texts;
 mod times;
+mod valgrind;
 mod verdict;
 
+use counted::COUNT;
 use layouts::{Layout, MEASURE};
 use std::process::ExitCode;
 
@@ -31,6 +36,7 @@ fn main() -> ExitCode {
     let words: Vec<&str> = arguments.iter().map(String::as_str).collect();
     let done = match words[..] {
         [MEASURE] => one_layout::print(),
+        [COUNT, implementation, call, number] => counted::run(implementation, call, number),
         [] => itself().and_then(|layout| print_all(&[layout])),
         _ => words.iter().map(|word| word.parse()).collect::<Result<Vec<_>, _>>().and_then(|all| print_all(&all)),
     };
@@ -54,6 +60,7 @@ fn print_all(layouts: &[Layout]) -> Result<(), String> {
     times::print_head(layouts);
     let figures = layouts::measure(layouts, cases.len() + singles.len())?;
     let missed = times::print(&cases, &singles, &figures);
+    instructions::print(&layouts[0].program, &cases, &singles)?;
     long_texts::print()?;
     match missed.len() {
         0 => println!("\nEvery aim is met."),

@@ -41,6 +41,12 @@ pub fn singles() -> Vec<Single> {
     singles
 }
 
+/// The call that is printed by this name.
+pub fn named(name: &str) -> Option<Call> {
+    let calls = IMAGE_CALLS.into_iter().chain([ASSEMBLE, DISASSEMBLE]);
+    calls.into_iter().find_map(|(call_name, call)| (call_name == name).then_some(call))
+}
+
 fn single(input_name: &'static str, input: Vec<u8>, (call_name, call): (&'static str, Call)) -> Single {
     Single { input_name, input, call_name, call }
 }
