@@ -89,8 +89,8 @@ examples: all ## test the README's programs, the C host by what is installed bel
 demo: $(archive) ## show what each observer sees of a sample day
 	@examples/day/run
 
-bench: $(archive) ## measure the time of turns, of calls and of long texts
-	@$(cargo) run $(cargo_words) --package bench
+bench: $(archive) ## measure the time of turns and of calls in several code layouts, their instructions, and long texts
+	@tools/bench env $(cargo)
 
 # Where a file is installed, quoted: DESTDIR may have blanks. PREFIX may not, as flags of the pkg-config file are words.
 below = $(if $(filter 1,$(words $(prefix))),'$(DESTDIR)$(prefix)/$(1)',$(error PREFIX is not one word: $(PREFIX)))
