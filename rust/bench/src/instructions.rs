@@ -34,7 +34,9 @@ fn print_turns(program: &Path, cases: &[Case]) -> Result<(), String> {
 }
 
 fn print_calls(program: &Path, singles: &[Single]) -> Result<(), String> {
-    println!("\nInstructions a call, counted by valgrind over {CALLS} calls");
+    println!(
+        "\nInstructions a call, counted by valgrind over {CALLS} calls; rep stos and rep movs count each repetition"
+    );
     println!("{:<44} {:<18} {}", "input", "call", heads());
     for Single { input_name, input, call_name, .. } in singles {
         let works = [CALLS, 2 * CALLS].map(|number| Work::Calls { name: call_name, number });
