@@ -1,8 +1,8 @@
--- Laws of the slots between which all that is used lies: nothing outside is ever used, and turns of slots outside only go by.
+-- Laws of the slots between which all that is used lies: nothing outside is ever used; and turns of slots without a live task only go by.
 use Prim.Native.Nat.{ℕ, zero, suc, _+_, _%_, _≤_, _<_}
 use mathlib.Core.Logic.{dite}
 use mathlib.Core.Path.{_≡_, refl, ap, _∙_}
-use mathlib.Core.Bool.{Bool, _&&_, not}
+use mathlib.Core.Bool.{Bool, false, _&&_, not}
 use mathlib.Core.List.{List}
 use native.Mathlib.Decide.{ℕ-discrete, decLt}
 use native.Mathlib.Numerals.{add-one}
@@ -12,7 +12,7 @@ use lib.ListN.{set, List·getD-eq-default}
 use Rattle.wire.proofs.Lists.{split, getD-set-at, first-low}
 use Rattle.label.specs.Label.{flows, join}
 use Rattle.label.proofs.Order.{label-order}
-use Rattle.machine.specs.State.{Message, Task, Slot, unused, used, State, slotAt, isUnused, spareOf}
+use Rattle.machine.specs.State.{Message, Task, Slot, unused, used, State, slotAt, isUnused, hasLiveTask, spareOf}
 use Rattle.machine.specs.Effect.{Action, noAction, deliver, spawn, outcome}
 use Rattle.machine.specs.Turn.{hasRoom, enqueue, perform, current, step, turnBy, turnsBy, busyBy}
 use Rattle.machine.specs.Machine.{turns, busy}
@@ -64,35 +64,38 @@ module _ (bottom top : ℕ) where
   outside s unused h out = refl
   outside s (used t) h out = absurd (out (h .0) (omega (arith, h .1)))
 
-  pub unused-below : (ss : List Slot) → Within bottom top ss → (s : ℕ) → s < bottom → slotAt ss s ≡ unused
-  unused-below ss ok s l = outside s (slotAt ss s) (ok s) (λ a b. omega arith)
+  pub idle-below : (ss : List Slot) → Within bottom top ss → (s : ℕ) → s < bottom → hasLiveTask (slotAt ss s) ≡ false
+  idle-below ss ok s l = ap hasLiveTask (outside s (slotAt ss s) (ok s) (λ a b. omega arith))
 
-  pub unused-above : (ss : List Slot) → Within bottom top ss → (s : ℕ) → top ≤ s → slotAt ss s ≡ unused
-  unused-above ss ok s l = outside s (slotAt ss s) (ok s) (λ a b. omega arith)
+  pub idle-above : (ss : List Slot) → Within bottom top ss → (s : ℕ) → top ≤ s → hasLiveTask (slotAt ss s) ≡ false
+  idle-above ss ok s l = ap hasLiveTask (outside s (slotAt ss s) (ok s) (λ a b. omega arith))
 
--- ---- turns of unused slots
+-- ---- turns of slots without a live task
 
--- n of them, of a state that is there: only the turn slot goes on, and none is busy
+-- n of them, up to the last slot: only the turn slot goes on, and none is busy
 module _ (s : State) (low : s .turnSlot ≤ 15) where
   abbrev after : ℕ → State
   after n = record { program = s .program; turnSlot = (s .turnSlot + n) % 16; slots = s .slots }
 
-  abbrev AllUnused : ℕ → Type 0
-  AllUnused n = (j : ℕ) → s .turnSlot ≤ j → j < s .turnSlot + n → slotAt (s .slots) j ≡ unused
+  step-idle : (program : List ℕ) (i : ℕ) (x : Slot) → hasLiveTask x ≡ false → step flows join program i (s .slots) x ≡ s .slots
+  step-idle program i unused e = refl
+  step-idle program i (used t) e = rw e
 
-  next-unused : (n : ℕ) → s .turnSlot + n < 16 → slotAt (s .slots) (s .turnSlot + n) ≡ unused → (after (suc n) ≡ turnBy flows join (after n)) × (current (after n) ≡ unused)
+  next-idle : (n : ℕ) → s .turnSlot + n < 16 → hasLiveTask (slotAt (s .slots) (s .turnSlot + n)) ≡ false
+      → (after (suc n) ≡ turnBy flows join (after n)) × (hasLiveTask (current (after n)) ≡ false)
   unfolding turnBy
-  next-unused n fits none =
+  next-idle n fits idle =
       let here : (s .turnSlot + n) % 16 ≡ s .turnSlot + n = omega arith in
       let next : (s .turnSlot + suc n) % 16 ≡ (s .turnSlot + n + 1) % 16 = omega arith in
-      rw (next, here, none) (refl, refl)
+      rw (next, here, step-idle (s .program) (s .turnSlot + n) (slotAt (s .slots) (s .turnSlot + n)) idle) (refl, idle)
 
-  pub turns-unused : (n : ℕ) → s .turnSlot + n ≤ 16 → AllUnused n → (after n ≡ turns n s) × (busy n s ≡ 0)
+  pub turns-idle : (n : ℕ) → s .turnSlot + n ≤ 16 → ((j : ℕ) → s .turnSlot ≤ j → j < s .turnSlot + n → hasLiveTask (slotAt (s .slots) j) ≡ false)
+      → (after n ≡ turns n s) × (busy n s ≡ 0)
   unfolding turnsBy busyBy
-  turns-unused zero fits none = let here : (s .turnSlot + 0) % 16 ≡ s .turnSlot = omega arith in (rw here, refl)
-  turns-unused (suc n) fits none =
-      let ih = turns-unused n (omega arith) (λ j a b. none j a (omega arith)) in
-      let more = next-unused n (omega arith) (none (s .turnSlot + n) (omega arith) (omega arith)) in
+  turns-idle zero fits idle = let here : (s .turnSlot + 0) % 16 ≡ s .turnSlot = omega arith in (rw here, refl)
+  turns-idle (suc n) fits idle =
+      let ih = turns-idle n (omega arith) (λ j a b. idle j a (omega arith)) in
+      let more = next-idle n (omega arith) (idle (s .turnSlot + n) (omega arith) (omega arith)) in
       (more .0 ∙ ap (turnBy flows join) (ih .0), rw (← ih .0, more .1, ih .1))
 
 -- ---- the bounds, slot by slot

@@ -23,7 +23,7 @@ use Rattle.machine.specs.Inner.{Within}
 use Rattle.machine.proofs.Rules.{TaskFacts, SlotFacts, size-facts, slot-facts}
 use Rattle.machine.proofs.Mailbox.{mailbox-room}
 use Rattle.machine.proofs.Machine.{turns-valid, turns-none, turns-more, turns-add, busy-none, busy-more, busy-add}
-use Rattle.machine.proofs.Bounds.{turns-within, turns-unused}
+use Rattle.machine.proofs.Bounds.{turns-within, turns-idle}
 use Rattle.table.specs.Change.{taskOr, taskAt, Used, slotWithKind}
 use Rattle.turn.specs.Effects.{executed, RoomFor, Ready, WasDecoded}
 use Rattle.turn.proofs.Effects.{kind-here}
@@ -118,14 +118,6 @@ module _ (program : List ℕ) (s : ℕ) (ss : List Slot) where
       live unused e = cc
       live (used t) e = rw e
 
-  turn-idle : hasLiveTask (slotAt ss s) ≡ false → ss ≡ turns 1 (record { program = program; turnSlot = s; slots = ss }) .slots
-  unfolding Turn.turnsBy Turn.turnBy
-  turn-idle = idle (slotAt ss s)
-    where
-      idle : (x : Slot) → hasLiveTask x ≡ false → ss ≡ Turn.step flows join program s ss x
-      idle unused e = refl
-      idle (used t) e = rw e
-
 -- ---- one turn more
 
 -- a run of n turns from a state has come to these slots, at turn slot s, and met so many live tasks
@@ -153,15 +145,11 @@ module _ {start : State} {program : List ℕ} {n s : ℕ} {ss : List Slot} {met 
       → Ran start program (n + 1) ((s + 1) % 16) ss′ (met + 1)
   ran-live live {ss′} e = record { state = turns-next ss′ (e ∙ turn-live program s ss live); met-is = sym (busy-next ∙ rw live) }
 
-  -- and one that meets none
-  pub ran-idle : hasLiveTask (slotAt ss s) ≡ false → Ran start program (n + 1) ((s + 1) % 16) ss met
-  ran-idle idle = record { state = turns-next ss (turn-idle program s ss idle); met-is = sym (busy-next ∙ rw idle (omega arith)) }
-
-  -- k turns of unused slots are passed over
-  pub ran-past : (k : ℕ) → s ≤ 15 → s + k ≤ 16 → ((j : ℕ) → s ≤ j → j < s + k → slotAt ss j ≡ unused) → Ran start program (n + k) ((s + k) % 16) ss met
+  -- k turns of slots without a live task are passed over
+  pub ran-past : (k : ℕ) → s ≤ 15 → s + k ≤ 16 → ((j : ℕ) → s ≤ j → j < s + k → hasLiveTask (slotAt ss j) ≡ false) → Ran start program (n + k) ((s + k) % 16) ss met
   ran-past k low fits none =
       let at : State = record { program = program; turnSlot = s; slots = ss } in
-      let past = turns-unused at low k fits none in
+      let past = turns-idle at low k fits none in
       record {
         state = past .0 ∙ ap (turns k) (ran .state) ∙ sym (turns-add n k start);
         met-is = ran .met-is ∙ sym (busy-add n k start ∙ ap (λ (state : State). busy n start + busy k state) (sym (ran .state)) ∙ rw (past .1) (omega arith));

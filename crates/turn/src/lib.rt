@@ -15,7 +15,7 @@ ghost use Rattle.machine.specs.Inner.{bottomOf, topBehind, topOf, Within};
 ghost use Rattle.table.specs.Table.{slotsIn, stateIn};
 ghost use Rattle.table.specs.Change.{taskAt, messageAt, change, withoutMessage};
 ghost use Rattle.turn.specs.Effects.{executed, RoomFor, GoesOn, Ready, WasDecoded, isGiven};
-ghost use Rattle.turn.specs.Answer.{runTold};
+ghost use Rattle.turn.specs.Answer.{runTold, NextLive};
 use instruction::Instruction;
 
 // ---- registers and place
@@ -316,6 +316,22 @@ fn round_end(slot: u8, left: u64) -> u8
     }
 }
 
+// The first slot from `first` on, and ahead of `stop`, with a live task; where there is none, `stop`, or `first` where that is behind it.
+// It has a loop of its own, which is short.
+fn next_live(table: &table::Table, first: usize, stop: usize) -> usize
+    requires { ⌜ stop ≤ 16 ⌝ }
+    ensures { λ r. ⌜ NextLive first stop (slotsIn (now (table .entry))) r ⌝ }
+{
+    let mut slot = first;
+    while slot < stop {
+        if table::kind(table, slot) == 1 {
+            return slot;
+        }
+        slot += 1;
+    }
+    slot
+}
+
 // The turns of the slots from `first` up to `end`, each followed by the next: how many met a live task. The slots below `bottom` and
 // from `top` on are unused and stay so, and are passed over.
 fn round(table: &mut table::Table, program: &[u8], first: u8, end: u8, bottom: u8, top: u8) -> u64
@@ -324,16 +340,16 @@ fn round(table: &mut table::Table, program: &[u8], first: u8, end: u8, bottom: u
         × (stateIn (now (program .entry)) (end % 16) (now (table .exit))
         ≡ turns (end - first) (stateIn (now (program .entry)) first (now (table .entry)))) ⌝ }
 {
-    let stop = min(end, top);
+    let stop = min(end, top) as usize;
     let mut busy: u64 = 0;
-    let mut slot = max(first, bottom);
+    let mut slot = max(first, bottom) as usize;
     while slot < stop {
-        if table::kind(table, slot as usize) == 1 {
-            act(table, program, slot);
+        if table::kind(table, slot) == 1 {
+            act(table, program, slot as u8);
             busy += 1;
             slot += 1;
         } else {
-            slot += 1;
+            slot = next_live(table, slot + 1, stop);
         }
     }
     busy
