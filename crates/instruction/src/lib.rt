@@ -144,11 +144,11 @@ pub fn legal_at(program: &[u8], pc: usize) -> Instruction
     requires { ⌜ (allLegal (now program) ≡ true) × (pc < count (now program)) ⌝ }
     ensures { λ r. ⌜ instructionAt (now (program .entry)) pc ≡ Legal r ⌝ }
 {
-    let at = 4 * pc;
+    let first = 4 * pc;
     form(
-        program[at],
-        program[at + 1],
-        program[at + 2],
-        program[at + 3],
+        program[first],
+        program[first + 1],
+        program[first + 2],
+        program[first + 3],
     )
 }

@@ -22,7 +22,7 @@ use Rattle.table.proofs.Message.{message-words}
 slot-past : (t : List ℕ) (s : ℕ) → 16 ≤ s → slotAt (slotsIn t) s ≡ unused
 slot-past t s h = List·getD-eq-default (slotsIn t) unused (rw length-slots h)
 
-pub slot-in : (t : List ℕ) (s : ℕ) → s < 16 → slotAt (slotsIn t) s ≡ held (taskIn (window t s))
+slot-in : (t : List ℕ) (s : ℕ) → s < 16 → slotAt (slotsIn t) s ≡ held (taskIn (window t s))
 unfolding slotsIn
 slot-in t s h = getD-tabulate 16 (λ j. held (taskIn (window t j))) s unused h
 
@@ -62,7 +62,7 @@ held-kind : (k : Task) → taskOr (held k) .kind ≡ k .kind
 held-kind k = split (eqb (k .kind) 0) (λ z. rw z (sym (eqb-true (k .kind) 0 z))) (λ z. rw z)
 
 -- what holds of every slot that is read, whatever the table's length
-pub slot-any : (P : Slot → Type 0) → P unused → ((w : List ℕ) → taskIn w .kind ≢ 0 → P (used (taskIn w))) → (t : List ℕ) (s : ℕ) → P (slotAt (slotsIn t) s)
+slot-any : (P : Slot → Type 0) → P unused → ((w : List ℕ) → taskIn w .kind ≢ 0 → P (used (taskIn w))) → (t : List ℕ) (s : ℕ) → P (slotAt (slotsIn t) s)
 slot-any P none some t s =
     dite (decLt s 16)
     (λ l. rw (slot-in t s l)

@@ -26,7 +26,7 @@ pub type Table = [u32; WORDS];
 const MAILBOX_ROOM: usize = 64;
 
 // A slot's words: one for each field, and behind them a column of 64 for each field of the messages. Behind a column are 8 that
-// nothing reads, so that whole blocks of words move.
+// mean nothing, so that whole blocks of words move.
 const KIND: usize = 0;
 
 const LABEL: usize = 1;
@@ -212,7 +212,7 @@ pub fn count_label(t: &Table, s: usize, label: u8) -> u32
 
 // ---- changing a field
 
-// The task in slot s gets kind x; kind 0 takes it away.
+// The task in slot s gets kind x; kind 0 takes it away. The slot has to be used: in an unused one a kind would be a task.
 pub fn set_kind(t: &mut Table, s: usize, x: u8)
     requires { ⌜ Used s (slotsIn (now t)) ⌝ }
     ensures { λ _. ⌜ slotsIn (now (t .exit)) ≡ set (slotsIn (now (t .entry))) s (slotWithKind x (slotAt (slotsIn (now (t .entry))) s)) ⌝ }
