@@ -1,14 +1,15 @@
 -- The order laws: labels under `flows` and `join`.
-use Prim.Native.Nat.{ℕ, _<_, _≤_, max}
+use Prim.Native.Nat.{ℕ, _<_, _≤_}
 use mathlib.Core.Path.{_≡_, refl}
 use mathlib.Core.Bool.{Bool, true}
 use native.Mathlib.Omega.{arith}
 use borrow.Author.Tests.{le-leb, leb-true}
 use lib.Dec.{leb}
-use lib.Bits.{or-lt, or-shr, or-step}
+use lib.Bits.{or-lt}
 use Rattle.wire.specs.Lists.{each}
 use Rattle.wire.proofs.Lists.{each-intro, each-at}
 use Rattle.label.specs.Label.{bit, flows, join}
+use Rattle.label.proofs.Bits.{bit-or}
 
 -- what the machine's laws ask of an order on labels: a preorder, with a join above its first argument and within the labels
 pub record Order (mayFlow : ℕ → ℕ → Bool) (joined : ℕ → ℕ → ℕ) : Type 0 where
@@ -30,15 +31,11 @@ module _ (k m : ℕ) where
   unfolding flows
   flows-at e o l = leb-true (bit o k) (bit o m) (each-at 8 (λ o. leb (bit o k) (bit o m)) e o l)
 
--- a join has the bits of either
-pub bit-join : (o k m : ℕ) → bit o (join k m) ≡ max (bit o k) (bit o m)
-bit-join o k m = rw (or-shr k m o, or-step) (omega arith)
-
 pub label-order : Order flows join
 label-order = record {
   reflexive = λ k. flows-intro k k (λ o l. omega arith);
   transitive = λ k l m p q. flows-intro k m (λ o h. omega (arith, flows-at k l p o h, flows-at l m q o h));
-  join-above = λ k m. flows-intro k (join k m) (λ o l. omega (arith, bit-join o k m));
+  join-above = λ k m. flows-intro k (join k m) (λ o l. omega (arith, bit-or o k m));
   join-label = λ k m p q. omega (arith, or-lt 4 k m (omega arith) (omega arith));
 }
 

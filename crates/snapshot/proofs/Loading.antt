@@ -9,13 +9,14 @@ use lib.ListN.{length, getD, take, drop, set, length-append, length-drop}
 use lib.Seq.{take-all, getD-drop, drop-drop, drop-cons, set-at, getD-set-same, append-snoc}
 use Rattle.wire.specs.Lists.{Bytes}
 use Rattle.wire.specs.Numbers.{decodeNumber}
+use Rattle.wire.proofs.Lists.{every-at, every-weaken}
 use Rattle.wire.proofs.Output.{copy-next}
 use Rattle.instruction.specs.Program.{count}
 use Rattle.machine.specs.Valid.{ValidTask}
-use Rattle.machine.proofs.Rules.{task-facts}
+use Rattle.machine.proofs.Rules.{MessageFacts, MailboxFacts, task-facts}
 use Rattle.machine.proofs.Mailbox.{mailbox-64}
 use Rattle.wire.specs.Items.{decodeItems}
-use Rattle.wire.proofs.Items.{length-decode, decode-more}
+use Rattle.wire.proofs.Items.{length-decode, getD-decode, decode-more}
 use Rattle.machine.specs.State.{Message, Task, Slot, unused, used, slotAt, withRegister, withRegisters, withMailbox}
 use Rattle.image.specs.Record.{messageOf, taskOf, slotOf, taskBytes}
 use Rattle.image.specs.Image.{recordOf, skip, slotsOf, slotsPart, programOf, stateOf}
@@ -24,9 +25,9 @@ use Rattle.image.proofs.Slots.{length-slotsOf, slot-at}
 use Rattle.image.proofs.Image.{accepted-valid, record-accepted}
 use Rattle.image.proofs.Records.{slot-some, task-length}
 use Rattle.table.specs.Table.{held}
-use Rattle.table.specs.Change.{taskAt, Used, changeSlot, change, withMessage, newTask}
+use Rattle.table.specs.Change.{noMessage, taskAt, Used, changeSlot, change, withMessage, newTask}
 use Rattle.table.proofs.Change.{change-none, change-set, change-at, change-change}
-use Rattle.snapshot.specs.Loading.{Loadable, LoadableSlots, registersSet, messagesAdded}
+use Rattle.snapshot.specs.Loading.{Labelled, Loadable, LoadableSlots, registersSet, messagesAdded}
 
 -- what is lent from index k on
 pub from-on : (k : ℕ) (xs : List ℕ) → take (length xs - k) (drop k xs) ≡ drop k xs
@@ -143,6 +144,15 @@ load-next b ys k r ss h l e f =
 
 -- ---- an accepted image
 
+-- the messages of a mailbox that is sound have labels
+mail-labelled : (b : List ℕ) → MailboxFacts (decodeItems 6 messageOf (length b / 6) b) → Labelled b
+mail-labelled b facts i h =
+    let ms = decodeItems 6 messageOf (length b / 6) b in
+    let first : 6 * i + 0 ≡ 6 * i = omega arith in
+    let small : (m : Message) → MessageFacts m → m .label ≤ 15 = λ m f. f .label in
+    rw (getD-decode 6 messageOf (length b / 6) i b noMessage h, getD-drop (6 * i) b 0 0, first)
+    at (every-at (λ m. m .label ≤ 15) noMessage (omega arith) ms (every-weaken MessageFacts (λ m. m .label ≤ 15) small ms (facts .each)) i)
+
 module _ (b : List ℕ) where
   -- its tasks have a kind, and their mailboxes no more than 64 messages
   pub accepted-loadable : Bytes b → imageNumber b ≡ 0 → LoadableSlots (slotsPart b)
@@ -154,4 +164,4 @@ module _ (b : List ℕ) where
       let facts = task-facts (count (programOf b)) i (taskOf r) valid in
       let back : taskBytes (taskOf r) ≡ r = rw (slot-some r (λ z. omega arith)) at (record-accepted b i h e (omega arith)) in
       let long : 37 ≤ length r = omega (arith, task-length (count (programOf b)) i (taskOf r) valid, ap length back) in
-      record { long = long; kind = facts .kind-low; messages = rw length-decode at (mailbox-64 (taskOf r .mailbox) (facts .mailbox)) }
+      record { long = long; kind = facts .kind-low; messages = rw length-decode at (mailbox-64 (taskOf r .mailbox) (facts .mailbox)); labels = mail-labelled (drop 37 r) (facts .mailbox) }

@@ -15,7 +15,7 @@ ghost use Rattle.image.specs.Image.{slotsOf, stateOf};
 ghost use Rattle.image.specs.Refusal.{imageNumber};
 ghost use Rattle.table.specs.Table.{mailboxRoom, slotsIn};
 ghost use Rattle.table.specs.Change.{taskAt, Used, messageAt, change};
-ghost use Rattle.snapshot.specs.Loading.{Loadable, LoadableSlot, LoadableSlots, registersSet, messagesAdded};
+ghost use Rattle.snapshot.specs.Loading.{Labelled, Loadable, LoadableSlot, LoadableSlots, registersSet, messagesAdded};
 ghost use Rattle.snapshot.specs.Writing.{snapshotBytes, headBytes, shownSlot, shownTask, shownMessage, isShown};
 
 // ---- load
@@ -36,7 +36,7 @@ fn load_registers(table: &mut table::Table, slot: usize, registers: &[u8])
 // Adds the messages to the mailbox of the task in a slot.
 fn load_mailbox(table: &mut table::Table, slot: usize, mailbox: &[u8])
     requires { ⌜ Used slot (slotsIn (now table))
-        × (length (taskAt (slotsIn (now table)) slot .mailbox) + length (now mailbox) / messageSize ≤ mailboxRoom) ⌝ }
+        × (length (taskAt (slotsIn (now table)) slot .mailbox) + length (now mailbox) / messageSize ≤ mailboxRoom) × Labelled (now mailbox) ⌝ }
     ensures { λ _. ⌜ slotsIn (now (table .exit))
         ≡ change slot (messagesAdded (length (now (mailbox .entry)) / messageSize) (now (mailbox .entry))) (slotsIn (now (table .entry))) ⌝ }
 {
@@ -128,14 +128,7 @@ pub fn mail_shown(table: &table::Table, slot: usize, observer: u8) -> usize
     requires { ⌜ Used slot (slotsIn (now table)) ⌝ }
     ensures { λ r. ⌜ (r ≡ length (viewTask (λ l. flows l observer) (taskAt (slotsIn (now (table .entry))) slot) .mailbox)) × (r ≤ 64) ⌝ }
 {
-    let count = table::mailbox_length(table, slot);
-    let mut n: usize = 0;
-    let mut i: usize = 0;
-    while i < count {
-        n += label::flows(table::message_label(table, slot, i), observer) as usize;
-        i += 1;
-    }
-    n
+    table::count_receivable(table, slot, observer)
 }
 
 // ---- sizes in bytes, known before the first byte is written

@@ -1,54 +1,68 @@
 -- Laws of the words of a slot: where they stand in the table, and what a store does to them.
-use Prim.Native.Nat.{ℕ, _+_, _*_, _-_, _<_}
-use mathlib.Core.Path.{_≡_, refl, ap, _∙_}
-use mathlib.Core.Logic.{_≢_, dite}
+use Prim.Native.Nat.{ℕ, _+_, _*_, _<_}
+use mathlib.Core.Path.{_≡_, refl, sym, ap, _∙_}
+use mathlib.Core.Logic.{_≢_}
 use mathlib.Core.List.{List}
 use borrow.Author.Fill.{fill-more}
-use native.Mathlib.Decide.{decLt}
 use native.Mathlib.Omega.{arith}
-use lib.ListN.{length, getD, take, drop, set, length-append, length-replicate, length-take, length-drop}
-use lib.Seq.{getD-take, getD-drop, drop-set-add, drop-set-lt, take-set-le, take-set-lt}
-use Rattle.table.specs.Table.{tableWords, window}
-use Rattle.table.specs.Words.{SlotStored, cleared}
+use lib.ListN.{length, getD, set}
+use lib.Seq.{getD-set-same, getD-set-other}
+use Rattle.wire.proofs.Tabulate.{length-tabulate, getD-tabulate, tabulate-same, tabulate-set}
+use Rattle.table.specs.Table.{window}
+use Rattle.table.specs.Words.{SlotChanged, SlotStored, cleared}
 
-pub window-length : (t : List ℕ) (s : ℕ) → length t ≡ tableWords → s < 16 → length (window t s) ≡ 232
-unfolding window
-window-length t s full h = simp (length-take, length-drop) (omega arith)
+module _ (t : List ℕ) (s : ℕ) where
+  pub window-length : length (window t s) ≡ 84
+  unfolding window
+  window-length = length-tabulate 84 (λ i. getD t (16 * i + s) 0)
 
-pub word-at : (t : List ℕ) (s i : ℕ) → i < 232 → getD t (s * 232 + i) 0 ≡ getD (window t s) i 0
-unfolding window
-word-at t s i h = rw (getD-take, getD-drop)
+  pub word-at : (i : ℕ) → i < 84 → getD t (16 * i + s) 0 ≡ getD (window t s) i 0
+  unfolding window
+  word-at i h = sym (getD-tabulate 84 (λ k. getD t (16 * k + s) 0) i 0 h)
 
--- a store in slot s, seen from slot s and from another
-window-set : (t : List ℕ) (s i x : ℕ) → i < 232 → window (set t (s * 232 + i) x) s ≡ set (window t s) i x
-unfolding window
-window-set t s i x h = rw (drop-set-add, take-set-lt)
+  pub stored-set : (i x : ℕ) → s < 16 → i < 84 → 16 * i + s < length t → SlotStored s (λ w. set w i x) t (set t (16 * i + s) x)
+  unfolding window
+  stored-set i x l h inside =
+      let u = set t (16 * i + s) x in
+      let same : (j k : ℕ) → (16 * k + j ≡ 16 * i + s → ⊥) → getD u (16 * k + j) 0 ≡ getD t (16 * k + j) 0
+      = λ j k ne. getD-set-other t (16 * i + s) (16 * k + j) x 0 ne in
+      record {
+        here = tabulate-set 84 (λ k. getD t (16 * k + s) 0) (λ k. getD u (16 * k + s) 0) i (λ k _ ne. same s k (λ e. ne (omega arith))) h
+            ∙ ap (set (window t s) i) (getD-set-same t (16 * i + s) x 0 inside);
+        other = λ j small ne. tabulate-same 84 (λ k. getD t (16 * k + j) 0) (λ k. getD u (16 * k + j) 0) (λ k _. same j k (λ e. ne (omega arith)));
+      }
 
-window-other : (t : List ℕ) (s i x j : ℕ) → i < 232 → j ≢ s → window (set t (s * 232 + i) x) j ≡ window t j
-unfolding window
-window-other t s i x j h ne =
-    dite (decLt s j)
-    (λ l. ap (take 232) (drop-set-lt (j * 232) t (s * 232 + i) x (omega arith)))
-    (λ l.
-    let k = (s - j) * 232 + i in
-    let e : s * 232 + i ≡ j * 232 + k = omega arith in
-    rw (e, drop-set-add) (take-set-le 232 (drop (j * 232) t) k x (omega arith)))
+-- ---- one after another
 
-pub stored-set : (t : List ℕ) (s i x : ℕ) → i < 232 → SlotStored s (λ w. set w i x) t (set t (s * 232 + i) x)
-stored-set t s i x h = record { here = window-set t s i x h; other = λ j ne. window-other t s i x j h ne }
-
--- one after another
 pub stored-then : {s : ℕ} {f g : List ℕ → List ℕ} {t u v : List ℕ} → SlotStored s f t u → SlotStored s g u v → SlotStored s (λ w. g (f w)) t v
-stored-then {g = g} p q = record { here = q .here ∙ ap g (p .here); other = λ j ne. q .other j ne ∙ p .other j ne }
+stored-then {g = g} p q = record { here = q .here ∙ ap g (p .here); other = λ j l ne. q .other j l ne ∙ p .other j l ne }
 
--- the loop that clears words
+module _ {s : ℕ} {t u v : List ℕ} (S : List ℕ → List ℕ → Type 0) where
+  pub changed-stored : {R : List ℕ → List ℕ → Type 0} {f : List ℕ → List ℕ} → SlotChanged s R t u → SlotStored s f u v
+      → ((x : List ℕ) → R (window t s) (window u s) → x ≡ f (window u s) → S (window t s) x) → SlotChanged s S t v
+  changed-stored p q e = record { here = e (window v s) (p .here) (q .here); other = λ j l ne. q .other j l ne ∙ p .other j l ne }
+
+  pub stored-changed : {f : List ℕ → List ℕ} {R : List ℕ → List ℕ → Type 0} → SlotStored s f t u → SlotChanged s R u v
+      → (window u s ≡ f (window t s) → R (window u s) (window v s) → S (window t s) (window v s)) → SlotChanged s S t v
+  stored-changed p q e = record { here = e (p .here) (q .here); other = λ j l ne. q .other j l ne ∙ p .other j l ne }
+
+  pub changed-changed : {P Q : List ℕ → List ℕ → Type 0} → SlotChanged s P t u → SlotChanged s Q u v
+      → (P (window t s) (window u s) → Q (window u s) (window v s) → S (window t s) (window v s)) → SlotChanged s S t v
+  changed-changed p q e = record { here = e (p .here) (q .here); other = λ j l ne. q .other j l ne ∙ p .other j l ne }
+
+pub changed-none : (s : ℕ) (R : List ℕ → List ℕ → Type 0) (t : List ℕ) → R (window t s) (window t s) → SlotChanged s R t t
+changed-none s R t r = record { here = r; other = λ j l ne. refl }
+
+pub changed-as : {s : ℕ} {R : List ℕ → List ℕ → Type 0} {t u : List ℕ} (S : List ℕ → List ℕ → Type 0) → SlotChanged s R t u
+    → (R (window t s) (window u s) → S (window t s) (window u s)) → SlotChanged s S t u
+changed-as S p e = record { here = e (p .here); other = p .other }
+
+-- ---- the loop that clears words
+
 pub cleared-none : (t : List ℕ) (s : ℕ) → SlotStored s (cleared 0) t t
-cleared-none t s = record { here = refl; other = λ j ne. refl }
+cleared-none t s = record { here = refl; other = λ j l ne. refl }
 
-pub cleared-more : {s i : ℕ} {t u v : List ℕ} → s < 16 → i < 232 → length u ≡ tableWords → SlotStored s (cleared i) t u → SlotStored s (λ w. set w i 0) u v
-    → SlotStored s (cleared (i + 1)) t v
-cleared-more {s} {i} {t} {u} l h full p q =
+pub cleared-more : {s i : ℕ} {t u v : List ℕ} → i < 84 → SlotStored s (cleared i) t u → SlotStored s (λ w. set w i 0) u v → SlotStored s (cleared (i + 1)) t v
+cleared-more {s} {i} {t} h p q =
     let r = stored-then p q in
-    let long : length (cleared i (window t s)) ≡ 232 = rw (← p .here) (window-length u s full l) in
-    let fits : i < length (window t s) = omega (arith, simp (length-append, length-replicate {A = ℕ}, length-drop) at long) in
-    record { here = r .here ∙ fill-more i 0 (window t s) fits; other = r .other }
+    record { here = r .here ∙ fill-more i 0 (window t s) (omega (arith, window-length t s)); other = r .other }

@@ -1,32 +1,34 @@
-// The working storage of a call: sixteen slots of 232 words each, lent to the call and touched by slot and field only.
-// Nothing is tested here that a caller knows: that a slot is one of the sixteen or is used, a register one of the eight, and a
-// message in the mailbox.
-ghost use Prim.Native.Nat.{_+_, _<_, _≤_, _*_, _%_};
+// The working storage of a call: sixteen slots of 84 words each, lent to the call and touched by slot and field only.
+// Nothing is tested here that a caller knows: that a slot is one of the sixteen or is used, a register one of the eight, a
+// message in the mailbox, and a label one of four bits.
+ghost use Prim.Native.Nat.{_+_, _-_, _<_, _≤_, _*_, _%_};
 ghost use mathlib.Core.Path.{_≡_};
-ghost use mathlib.Core.List.{map};
+ghost use mathlib.Core.Bool.{cond};
 ghost use lib.Dec.{eqb};
-ghost use lib.ListN.{length, getD, set, take, drop};
+ghost use lib.ListN.{length, getD, set};
+ghost use Rattle.wire.specs.Lists.{keep};
 ghost use Rattle.wire.specs.Inner.{firstIndex};
-ghost use Rattle.label.specs.Label.{flows};
+ghost use Rattle.label.specs.Label.{bit, flows};
+ghost use Rattle.planes.specs.Planes.{Bits, setOf, labelFrom};
 ghost use Rattle.machine.specs.State.{unused, slotAt, register, withLabel, withSpare, withPc, withRegister};
-ghost use Rattle.machine.specs.Turn.{ofLabel};
-ghost use Rattle.table.specs.Table.{slotWords, tableWords, mailboxRoom, window, slotsIn, held};
-ghost use Rattle.table.specs.Words.{SlotStored, storeMessage, shifted, cleared};
+ghost use Rattle.machine.specs.Turn.{hasRoom};
+ghost use Rattle.table.specs.Table.{slotWords, tableWords, mailboxRoom, window, planeIn, ringIn, slotsIn, held};
+ghost use Rattle.table.specs.Words.{SlotChanged, SlotStored, cleared, Planed, WithBit, WithoutBit, Moved, down, up, With, Closed, Without};
 ghost use Rattle.table.specs.Change.{Used, taskAt, messageAt, change, slotWithKind, withMessage, withoutMessage, newTask};
 
 const SLOTS: usize = 16;
 
-const SLOT_WORDS: usize = 232;
+const SLOT_WORDS: usize = 84;
 
 // The words of the whole table.
 pub const WORDS: usize = SLOTS * SLOT_WORDS;
 
-pub type Table = [u32; WORDS];
+pub type Table = [u64; WORDS];
 
 const MAILBOX_ROOM: usize = 64;
 
-// A slot's words: one for each field, and behind them a column of 64 for each field of the messages. Behind a column are 8 that
-// mean nothing, so that whole blocks of words move.
+// A slot's words: one for each field, one for each plane of the messages' labels, and a ring of 64 for the messages. The two
+// behind the start are free; the first of them is kept for a clearance.
 const KIND: usize = 0;
 
 const LABEL: usize = 1;
@@ -39,16 +41,16 @@ const REGISTERS: usize = 4;
 
 const COUNT: usize = 12;
 
-const LABELS: usize = 16;
+const START: usize = 13;
 
-const SENDERS: usize = 88;
+const PLANES: usize = 16;
 
-const VALUES: usize = 160;
+const RING: usize = 20;
 
 // ---- words
 
 // The word at an index. It takes a slice, because the length of a slice is known.
-fn fetch(t: &[u32], at: usize) -> u32
+fn fetch(t: &[u64], at: usize) -> u64
     requires { ⌜ at < length (now t) ⌝ }
     ensures { λ r. ⌜ r ≡ getD (now (t .entry)) at 0 ⌝ }
 {
@@ -56,35 +58,41 @@ fn fetch(t: &[u32], at: usize) -> u32
 }
 
 // The word at an index gets x.
-fn store(t: &mut [u32], at: usize, x: u32)
+fn store(t: &mut [u64], at: usize, x: u64)
     requires { ⌜ at < length (now t) ⌝ }
     ensures { λ _. ⌜ now (t .exit) ≡ set (now (t .entry)) at x ⌝ }
 {
     t[at] = x;
 }
 
-// The n words from index at on.
-fn part(t: &[u32], at: usize, n: usize) -> &[u32]
-    requires { ⌜ at + n ≤ length (now t) ⌝ }
-    ensures { λ r. ⌜ now r ≡ take n (drop at (now (t .entry))) ⌝ }
-{
-    &t[at..at + n]
-}
-
-// Word i of slot s.
-fn word(t: &Table, s: usize, i: usize) -> u32
+// Word i of slot s. Words i of all slots stand side by side, so a field of a slot is found without a multiplication.
+fn word(t: &Table, s: usize, i: usize) -> u64
     requires { ⌜ (s < 16) × (i < slotWords) ⌝ }
-    ensures { λ r. ⌜ (length (now (t .entry)) ≡ tableWords) × (r ≡ getD (window (now (t .entry)) s) i 0) ⌝ }
+    ensures { λ r. ⌜ r ≡ getD (window (now (t .entry)) s) i 0 ⌝ }
 {
-    fetch(t, s * SLOT_WORDS + i)
+    fetch(t, SLOTS * i + s)
 }
 
 // Word i of slot s gets x.
-fn put(t: &mut Table, s: usize, i: usize, x: u32)
+fn put(t: &mut Table, s: usize, i: usize, x: u64)
     requires { ⌜ (s < 16) × (i < slotWords) ⌝ }
-    ensures { λ _. ⌜ (length (now (t .entry)) ≡ tableWords) × SlotStored s (λ w. set w i x) (now (t .entry)) (now (t .exit)) ⌝ }
+    ensures { λ _. ⌜ SlotStored s (λ w. set w i x) (now (t .entry)) (now (t .exit)) ⌝ }
 {
-    store(t, s * SLOT_WORDS + i, x);
+    store(t, SLOTS * i + s, x);
+}
+
+// The low byte of a word.
+fn byte(x: u64) -> u8
+    ensures { λ r. ⌜ r ≡ x % 256 ⌝ }
+{
+    (x % 256) as u8
+}
+
+// The low four bytes of a word.
+fn four(x: u64) -> u32
+    ensures { λ r. ⌜ r ≡ x % 4294967296 ⌝ }
+{
+    (x % 4294967296) as u32
 }
 
 // ---- reading
@@ -94,7 +102,7 @@ pub fn kind(t: &Table, s: usize) -> u8
     requires { ⌜ s < 16 ⌝ }
     ensures { λ r. ⌜ r ≡ taskAt (slotsIn (now (t .entry))) s .kind ⌝ }
 {
-    (word(t, s, KIND) % 256) as u8
+    byte(word(t, s, KIND))
 }
 
 // The label of the task in slot s.
@@ -102,7 +110,7 @@ pub fn label(t: &Table, s: usize) -> u8
     requires { ⌜ Used s (slotsIn (now t)) ⌝ }
     ensures { λ r. ⌜ r ≡ taskAt (slotsIn (now (t .entry))) s .label ⌝ }
 {
-    (word(t, s, LABEL) % 256) as u8
+    byte(word(t, s, LABEL))
 }
 
 // The spare slots that the task in slot s has a right to.
@@ -110,7 +118,7 @@ pub fn spare(t: &Table, s: usize) -> u8
     requires { ⌜ Used s (slotsIn (now t)) ⌝ }
     ensures { λ r. ⌜ r ≡ taskAt (slotsIn (now (t .entry))) s .spare ⌝ }
 {
-    (word(t, s, SPARE) % 256) as u8
+    byte(word(t, s, SPARE))
 }
 
 // The index of the next instruction of the task in slot s.
@@ -118,7 +126,7 @@ pub fn pc(t: &Table, s: usize) -> u32
     requires { ⌜ Used s (slotsIn (now t)) ⌝ }
     ensures { λ r. ⌜ r ≡ taskAt (slotsIn (now (t .entry))) s .pc ⌝ }
 {
-    word(t, s, PC)
+    four(word(t, s, PC))
 }
 
 // Register a of the task in slot s.
@@ -126,7 +134,7 @@ pub fn register(t: &Table, s: usize, a: usize) -> u32
     requires { ⌜ Used s (slotsIn (now t)) × (a < 8) ⌝ }
     ensures { λ r. ⌜ r ≡ register (taskAt (slotsIn (now (t .entry))) s) a ⌝ }
 {
-    word(t, s, REGISTERS + a)
+    four(word(t, s, REGISTERS + a))
 }
 
 // How many messages are in the mailbox of the task in slot s.
@@ -138,12 +146,45 @@ pub fn mailbox_length(t: &Table, s: usize) -> usize
     if n < MAILBOX_ROOM { n } else { MAILBOX_ROOM }
 }
 
+// Where in the ring the oldest message of slot s lies.
+fn start(t: &Table, s: usize) -> usize
+    requires { ⌜ s < 16 ⌝ }
+    ensures { λ r. ⌜ r ≡ getD (window (now (t .entry)) s) 13 0 % mailboxRoom ⌝ }
+{
+    (word(t, s, START) % 64) as usize
+}
+
+// The word of message i in slot s.
+fn mail(t: &Table, s: usize, i: usize) -> u64
+    requires { ⌜ (s < 16) × (i < mailboxRoom) ⌝ }
+    ensures { λ r. ⌜ r ≡ ringIn (getD (window (now (t .entry)) s) 13 0) (window (now (t .entry)) s) i ⌝ }
+{
+    word(t, s, RING + (start(t, s) + i) % MAILBOX_ROOM)
+}
+
+// Plane b of slot s.
+fn plane(t: &Table, s: usize, b: usize) -> u64
+    requires { ⌜ (s < 16) × (b < 4) ⌝ }
+    ensures { λ r. ⌜ r ≡ planeIn (window (now (t .entry)) s) b ⌝ }
+{
+    word(t, s, PLANES + b)
+}
+
+// Bit b of the label of message i in slot s.
+fn label_bit(t: &Table, s: usize, b: usize, i: usize) -> u8
+    requires { ⌜ (s < 16) × (b < 4) × (i < mailboxRoom) ⌝ }
+    ensures { λ r. ⌜ (r ≡ bit i (planeIn (window (now (t .entry)) s) b)) × (r < 2) ⌝ }
+{
+    byte((plane(t, s, b) >> i) % 2)
+}
+
 // The label of message i in slot s, the oldest first.
 pub fn message_label(t: &Table, s: usize, i: usize) -> u8
     requires { ⌜ i < length (taskAt (slotsIn (now t)) s .mailbox) ⌝ }
     ensures { λ r. ⌜ r ≡ messageAt (slotsIn (now (t .entry))) s i .label ⌝ }
 {
-    (word(t, s, LABELS + i) % 256) as u8
+    let high = label_bit(t, s, 2, i) + 2 * label_bit(t, s, 3, i);
+    label_bit(t, s, 0, i) + 2 * (label_bit(t, s, 1, i) + 2 * high)
 }
 
 // The slot that sent message i in slot s.
@@ -151,7 +192,7 @@ pub fn message_sender(t: &Table, s: usize, i: usize) -> u8
     requires { ⌜ i < length (taskAt (slotsIn (now t)) s .mailbox) ⌝ }
     ensures { λ r. ⌜ r ≡ messageAt (slotsIn (now (t .entry))) s i .sender ⌝ }
 {
-    (word(t, s, SENDERS + i) % 256) as u8
+    byte(mail(t, s, i) / 4294967296)
 }
 
 // The value of message i in slot s.
@@ -159,55 +200,90 @@ pub fn message_value(t: &Table, s: usize, i: usize) -> u32
     requires { ⌜ i < length (taskAt (slotsIn (now t)) s .mailbox) ⌝ }
     ensures { λ r. ⌜ r ≡ messageAt (slotsIn (now (t .entry))) s i .value ⌝ }
 {
-    word(t, s, VALUES + i)
+    four(mail(t, s, i))
 }
 
-// The words of the labels of the messages in slot s, the oldest first.
-fn labels(t: &Table, s: usize) -> &[u32]
-    requires { ⌜ Used s (slotsIn (now t)) ⌝ }
-    ensures { λ r. ⌜ (map (λ x. x % 256) (now r) ≡ map (λ m. m .label) (taskAt (slotsIn (now (t .entry))) s .mailbox)) × (length (now r) ≤ mailboxRoom) ⌝ }
+// ---- sets of messages
+
+// Where slot s would have a message of this label, were there 64: plane by plane those go that differ.
+fn labelled(t: &Table, s: usize, label: u8) -> u64
+    requires { ⌜ (s < 16) × (label ≤ 15) ⌝ }
+    ensures { λ r. ⌜ Bits (λ i. cond (eqb (labelFrom 4 (planeIn (window (now (t .entry)) s)) i) label) 1 0) r ⌝ }
 {
-    let n = mailbox_length(t, s);
-    part(t, s * SLOT_WORDS + LABELS, n)
+    let mut apart: u64 = 0;
+    let mut b: usize = 0;
+    while b < 4 {
+        apart = apart | planes::unlike(plane(t, s, b), label, b);
+        b += 1;
+    }
+    !apart
 }
 
-// The index of the oldest message in slot s whose label flows to `label`; how many messages there are where there is none.
+// Where slot s would have a message whose label flows to `label`, were there 64: plane by plane those go that have more.
+fn flowing(t: &Table, s: usize, label: u8) -> u64
+    requires { ⌜ s < 16 ⌝ }
+    ensures { λ r. ⌜ Bits (λ i. cond (flows (labelFrom 4 (planeIn (window (now (t .entry)) s)) i) label) 1 0) r ⌝ }
+{
+    let mut hidden: u64 = 0;
+    let mut b: usize = 0;
+    while b < 4 {
+        hidden = hidden | planes::above(plane(t, s, b), label, b);
+        b += 1;
+    }
+    !hidden
+}
+
+// The messages of a label in slot s.
+pub fn of_label(t: &Table, s: usize, label: u8) -> u64
+    requires { ⌜ Used s (slotsIn (now t)) × (label ≤ 15) ⌝ }
+    ensures { λ r. ⌜ r ≡ setOf (λ m. eqb (m .label) label) (taskAt (slotsIn (now (t .entry))) s .mailbox) ⌝ }
+{
+    labelled(t, s, label) & planes::below(mailbox_length(t, s))
+}
+
+// The messages in slot s whose labels flow to `label`.
+pub fn receivable(t: &Table, s: usize, label: u8) -> u64
+    requires { ⌜ Used s (slotsIn (now t)) ⌝ }
+    ensures { λ r. ⌜ r ≡ setOf (λ m. flows (m .label) label) (taskAt (slotsIn (now (t .entry))) s .mailbox) ⌝ }
+{
+    flowing(t, s, label) & planes::below(mailbox_length(t, s))
+}
+
+// The index of the oldest message in slot s whose label flows to `label`; how many messages there are where there is none. What
+// lies behind the last is not masked off, since the first is looked for.
 pub fn oldest(t: &Table, s: usize, label: u8) -> usize
     requires { ⌜ Used s (slotsIn (now t)) ⌝ }
     ensures { λ r. ⌜ r ≡ firstIndex (λ m. flows (m .label) label) (taskAt (slotsIn (now (t .entry))) s .mailbox) ⌝ }
 {
-    let words = labels(t, s);
-    let mut i = 0;
-    while i < words.len() {
-        if label::flows((words[i] % 256) as u8, label) {
-            return i;
-        }
-        i += 1;
+    let n = mailbox_length(t, s);
+    if n == 0 {
+        return 0;
     }
-    i
+    let i = u64::trailing_zeros(flowing(t, s, label)) as usize;
+    if i < n { i } else { n }
 }
 
-// Whether the low byte of a word is the label.
-fn is_label(word: u32, label: u8) -> bool
-    ensures { λ r. ⌜ r ≡ eqb (word % 256) label ⌝ }
-{
-    word % 256 == label as u32
-}
-
-// How many messages of a label are in the mailbox of the task in slot s. The sum has the words' width, so that as many words are
-// compared at once as a register of the processor holds.
-pub fn count_label(t: &Table, s: usize, label: u8) -> u32
+// How many messages in slot s have labels that flow to `label`.
+pub fn count_receivable(t: &Table, s: usize, label: u8) -> usize
     requires { ⌜ Used s (slotsIn (now t)) ⌝ }
-    ensures { λ r. ⌜ r ≡ length (ofLabel label (taskAt (slotsIn (now (t .entry))) s .mailbox)) ⌝ }
+    ensures { λ r. ⌜ (r ≡ length (keep (λ m. flows (m .label) label) (taskAt (slotsIn (now (t .entry))) s .mailbox))) × (r ≤ mailboxRoom) ⌝ }
 {
-    let words = labels(t, s);
-    let mut n: u32 = 0;
-    let mut i = 0;
-    while i < words.len() {
-        n += is_label(words[i], label) as u32;
-        i += 1;
+    u64::count_ones(receivable(t, s, label)) as usize
+}
+
+// Whether slot s has fewer than four messages of a label.
+pub fn has_room(t: &Table, s: usize, label: u8) -> bool
+    requires { ⌜ Used s (slotsIn (now t)) × (label ≤ 15) ⌝ }
+    ensures { λ r. ⌜ r ≡ hasRoom label (taskAt (slotsIn (now (t .entry))) s .mailbox) ⌝ }
+{
+    if mailbox_length(t, s) < 4 {
+        return true;
     }
-    n
+    if planes::has_four(of_label(t, s, label)) {
+        false
+    } else {
+        true
+    }
 }
 
 // ---- changing a field
@@ -217,7 +293,7 @@ pub fn set_kind(t: &mut Table, s: usize, x: u8)
     requires { ⌜ Used s (slotsIn (now t)) ⌝ }
     ensures { λ _. ⌜ slotsIn (now (t .exit)) ≡ set (slotsIn (now (t .entry))) s (slotWithKind x (slotAt (slotsIn (now (t .entry))) s)) ⌝ }
 {
-    put(t, s, KIND, x as u32);
+    put(t, s, KIND, x as u64);
 }
 
 // The task in slot s gets label x.
@@ -225,7 +301,7 @@ pub fn set_label(t: &mut Table, s: usize, x: u8)
     requires { ⌜ s < 16 ⌝ }
     ensures { λ _. ⌜ slotsIn (now (t .exit)) ≡ change s (withLabel x) (slotsIn (now (t .entry))) ⌝ }
 {
-    put(t, s, LABEL, x as u32);
+    put(t, s, LABEL, x as u64);
 }
 
 // The task in slot s gets a right to x spare slots.
@@ -233,7 +309,7 @@ pub fn set_spare(t: &mut Table, s: usize, x: u8)
     requires { ⌜ s < 16 ⌝ }
     ensures { λ _. ⌜ slotsIn (now (t .exit)) ≡ change s (withSpare x) (slotsIn (now (t .entry))) ⌝ }
 {
-    put(t, s, SPARE, x as u32);
+    put(t, s, SPARE, x as u64);
 }
 
 // The next instruction of the task in slot s is that at index x.
@@ -241,7 +317,7 @@ pub fn set_pc(t: &mut Table, s: usize, x: u32)
     requires { ⌜ s < 16 ⌝ }
     ensures { λ _. ⌜ slotsIn (now (t .exit)) ≡ change s (withPc x) (slotsIn (now (t .entry))) ⌝ }
 {
-    put(t, s, PC, x);
+    put(t, s, PC, x as u64);
 }
 
 // Register a of the task in slot s gets x.
@@ -249,58 +325,135 @@ pub fn set_register(t: &mut Table, s: usize, a: usize, x: u32)
     requires { ⌜ (s < 16) × (a < 8) ⌝ }
     ensures { λ _. ⌜ slotsIn (now (t .exit)) ≡ change s (withRegister a x) (slotsIn (now (t .entry))) ⌝ }
 {
-    put(t, s, REGISTERS + a, x);
+    put(t, s, REGISTERS + a, x as u64);
 }
 
 // ---- changing the mailbox
 
-// Message i of slot s is written, also where the mailbox ends before it.
-fn store_message(t: &mut Table, s: usize, i: usize, label: u8, sender: u8, value: u32)
-    requires { ⌜ (s < 16) × (i < mailboxRoom) ⌝ }
-    ensures { λ _. ⌜ (length (now (t .entry)) ≡ tableWords) × SlotStored s (storeMessage i (record { label = label; sender = sender; value = value })) (now (t .entry)) (now (t .exit)) ⌝ }
+// Each plane of slot s gets the label's bit as bit n.
+fn mark(t: &mut Table, s: usize, n: usize, label: u8)
+    requires { ⌜ (s < 16) × (n < mailboxRoom) ⌝ }
+    ensures { λ _. ⌜ SlotChanged s (Planed 4 (WithBit n label)) (now (t .entry)) (now (t .exit)) ⌝ }
 {
-    put(t, s, LABELS + i, label as u32);
-    put(t, s, SENDERS + i, sender as u32);
-    put(t, s, VALUES + i, value);
+    let mut b: usize = 0;
+    while b < 4 {
+        let x = planes::with_bit(plane(t, s, b), n, label, b);
+        put(t, s, PLANES + b, x);
+        b += 1;
+    }
+}
+
+// Message n is written behind those before it; the count is not.
+fn write_message(t: &mut Table, s: usize, n: usize, label: u8, sender: u8, value: u32)
+    requires { ⌜ (s < 16) × (n < mailboxRoom) × (label ≤ 15) ⌝ }
+    ensures { λ _. ⌜ SlotChanged s (With n (record { label = label; sender = sender; value = value })) (now (t .entry)) (now (t .exit)) ⌝ }
+{
+    let at = (start(t, s) + n) % MAILBOX_ROOM;
+    put(t, s, RING + at, (sender as u64) * 4294967296 + (value as u64));
+    mark(t, s, n, label);
 }
 
 // The message joins the end of a mailbox that has room for it.
 pub fn append(t: &mut Table, s: usize, label: u8, sender: u8, value: u32)
-    requires { ⌜ Used s (slotsIn (now t)) × (length (taskAt (slotsIn (now t)) s .mailbox) < mailboxRoom) ⌝ }
+    requires { ⌜ Used s (slotsIn (now t)) × (length (taskAt (slotsIn (now t)) s .mailbox) < mailboxRoom) × (label ≤ 15) ⌝ }
     ensures { λ _. ⌜ slotsIn (now (t .exit)) ≡ change s (withMessage (record { label = label; sender = sender; value = value })) (slotsIn (now (t .entry))) ⌝ }
 {
-    let n = mailbox_length(t, s);
-    store_message(t, s, n, label, sender, value);
-    put(t, s, COUNT, (n + 1) as u32);
+    let n = word(t, s, COUNT) as usize;
+    write_message(t, s, n, label, sender, value);
+    put(t, s, COUNT, (n + 1) as u64);
 }
 
-// Each word of so many blocks of 8, from index at on, is replaced by the one behind it. The compiler moves a block at once, where
-// words left over would be moved one by one.
-fn shift_down(t: &mut Table, at: usize, blocks: usize)
-    requires { ⌜ at + 8 * blocks < tableWords ⌝ }
-    ensures { λ _. ⌜ now (t .exit) ≡ shifted at (8 * blocks) (now (t .entry)) ⌝ }
+// Bit k of each plane of slot s goes.
+fn unmark(t: &mut Table, s: usize, k: usize)
+    requires { ⌜ (s < 16) × (k < mailboxRoom) ⌝ }
+    ensures { λ _. ⌜ SlotChanged s (Planed 4 (WithoutBit k)) (now (t .entry)) (now (t .exit)) ⌝ }
 {
-    let words = 8 * blocks;
-    let mut i = 0;
-    while i < words {
-        let x = t[at + i + 1];
-        t[at + i] = x;
-        i += 1;
+    let mut b: usize = 0;
+    while b < 4 {
+        let x = planes::without_bit(plane(t, s, b), k);
+        put(t, s, PLANES + b, x);
+        b += 1;
     }
 }
 
-// Message i goes, and those behind it move down by one, column by column. What moves with them from behind the last is no message.
+// The word of message `from` is written over that of message `to`, both counted from a start of the ring.
+fn move_mail(t: &mut Table, s: usize, start: usize, from: usize, to: usize)
+    requires { ⌜ (s < 16) × (start < mailboxRoom) × (from < mailboxRoom) × (to < mailboxRoom) ⌝ }
+    ensures { λ _. ⌜ SlotStored s (λ w. set w (20 + (start + to) % mailboxRoom) (ringIn start w from)) (now (t .entry)) (now (t .exit)) ⌝ }
+{
+    let x = word(t, s, RING + (start + from) % MAILBOX_ROOM);
+    put(t, s, RING + (start + to) % MAILBOX_ROOM, x);
+}
+
+// The messages behind message i, of n, move down by one.
+fn move_down(t: &mut Table, s: usize, start: usize, i: usize, n: usize)
+    requires { ⌜ (s < 16) × (start < mailboxRoom) × (i < n) × (n ≤ mailboxRoom) ⌝ }
+    ensures { λ _. ⌜ SlotChanged s (Moved start (down i n)) (now (t .entry)) (now (t .exit)) ⌝ }
+{
+    let mut k = i + 1;
+    while k < n {
+        move_mail(t, s, start, k, k - 1);
+        k += 1;
+    }
+}
+
+// The messages ahead of message i move up by one.
+fn move_up(t: &mut Table, s: usize, start: usize, i: usize)
+    requires { ⌜ (s < 16) × (start < mailboxRoom) × (i < mailboxRoom) ⌝ }
+    ensures { λ _. ⌜ SlotChanged s (Moved start (up i 0)) (now (t .entry)) (now (t .exit)) ⌝ }
+{
+    let mut k = i;
+    while k > 0 {
+        move_mail(t, s, start, k - 1, k);
+        k -= 1;
+    }
+}
+
+// The word of message i, of n, goes from the ring: the shorter side moves.
+fn close_gap(t: &mut Table, s: usize, i: usize, n: usize)
+    requires { ⌜ (s < 16) × (i < n) × (n ≤ mailboxRoom) ⌝ }
+    ensures { λ _. ⌜ SlotChanged s (Closed i n) (now (t .entry)) (now (t .exit)) ⌝ }
+{
+    let start = start(t, s);
+    if i + i < n {
+        move_up(t, s, start, i);
+        put(t, s, START, ((start + 1) % MAILBOX_ROOM) as u64);
+    } else {
+        move_down(t, s, start, i, n);
+    }
+}
+
+// The oldest message goes: the ring starts behind it.
+fn drop_first(t: &mut Table, s: usize, n: usize)
+    requires { ⌜ (s < 16) × (0 < n) × (n ≤ mailboxRoom) ⌝ }
+    ensures { λ _. ⌜ SlotChanged s (Without 0 n) (now (t .entry)) (now (t .exit)) ⌝ }
+{
+    let start = start(t, s);
+    put(t, s, START, ((start + 1) % MAILBOX_ROOM) as u64);
+    unmark(t, s, 0);
+}
+
+// Message i of n goes; the count is kept. The oldest needs no moves, so it has a way of its own.
+fn drop_message(t: &mut Table, s: usize, i: usize, n: usize)
+    requires { ⌜ (s < 16) × (i < n) × (n ≤ mailboxRoom) ⌝ }
+    ensures { λ _. ⌜ SlotChanged s (Without i n) (now (t .entry)) (now (t .exit)) ⌝ }
+{
+    if i == 0 {
+        drop_first(t, s, n);
+    } else {
+        close_gap(t, s, i, n);
+        unmark(t, s, i);
+    }
+}
+
+// Message i goes.
 pub fn remove(t: &mut Table, s: usize, i: usize)
     requires { ⌜ i < length (taskAt (slotsIn (now t)) s .mailbox) ⌝ }
     ensures { λ _. ⌜ slotsIn (now (t .exit)) ≡ change s (withoutMessage i) (slotsIn (now (t .entry))) ⌝ }
 {
     let n = mailbox_length(t, s);
-    let blocks = (n - i + 6) / 8;
-    let at = s * SLOT_WORDS + i;
-    shift_down(t, at + LABELS, blocks);
-    shift_down(t, at + SENDERS, blocks);
-    shift_down(t, at + VALUES, blocks);
-    put(t, s, COUNT, (n - 1) as u32);
+    drop_message(t, s, i, n);
+    put(t, s, COUNT, (n - 1) as u64);
 }
 
 // ---- changing a slot
@@ -313,13 +466,13 @@ pub fn clear(t: &mut Table, s: usize)
     put(t, s, KIND, 0);
 }
 
-// Every word of slot s ahead of its messages becomes 0.
+// Every word of slot s ahead of its planes becomes 0.
 fn clear_fields(t: &mut Table, s: usize)
     requires { ⌜ s < 16 ⌝ }
     ensures { λ _. ⌜ SlotStored s (cleared 16) (now (t .entry)) (now (t .exit)) ⌝ }
 {
     let mut i = 0;
-    while i < LABELS {
+    while i < PLANES {
         put(t, s, i, 0);
         i += 1;
     }
@@ -331,8 +484,8 @@ pub fn put_task(t: &mut Table, s: usize, kind: u8, label: u8, spare: u8, pc: u32
     ensures { λ _. ⌜ slotsIn (now (t .exit)) ≡ set (slotsIn (now (t .entry))) s (held (newTask kind label spare pc)) ⌝ }
 {
     clear_fields(t, s);
-    put(t, s, KIND, kind as u32);
-    put(t, s, LABEL, label as u32);
-    put(t, s, SPARE, spare as u32);
-    put(t, s, PC, pc);
+    put(t, s, KIND, kind as u64);
+    put(t, s, LABEL, label as u64);
+    put(t, s, SPARE, spare as u64);
+    put(t, s, PC, pc as u64);
 }

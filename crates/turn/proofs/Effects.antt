@@ -2,29 +2,29 @@
 use Prim.Native.Nat.{ℕ, _+_, _-_, _*_, _^_, _%_, _<_, _≤_}
 use mathlib.Core.Logic.{_≢_}
 use mathlib.Core.Path.{_≡_, refl, sym, ap, subst, _∙_}
-use mathlib.Core.Bool.{Bool, true, false, _&&_, and-false}
+use mathlib.Core.Bool.{Bool, true, false, _&&_}
 use mathlib.Core.Option.{Option, none, some}
 use mathlib.Core.List.{List}
 use native.Mathlib.Omega.{arith}
-use borrow.Author.Tests.{le-leb, lt-leb, lt-ltb, le-ltb, ne-eqb}
+use borrow.Author.Tests.{le-leb, lt-leb, ne-eqb}
 use lib.Dec.{eqb}
 use lib.ListN.{length, set, List·getD-eq-default}
 use lib.Seq.{set-getD}
 use Rattle.label.specs.Label.{flows, join}
 use Rattle.wire.specs.Lists.{dropFirst}
 use Rattle.wire.specs.Inner.{without, firstIndex}
-use Rattle.wire.proofs.Lists.{first-none, first-some, first-without}
+use Rattle.wire.proofs.Lists.{and-both, first-none, first-some, first-without}
 use Rattle.instruction.specs.declared.Instruction.{Instruction}
 use Rattle.instruction.specs.declared.Instruction.the-variants.{End, Set, Copy, Add, Subtract, Go, Zero, Raise, Send, Take, Poll, Sandbox, Identity}
 use Rattle.instruction.proofs.Table.{Sound, decode-sound}
 use Rattle.machine.specs.State.{Message, Task, Slot, unused, used, slotAt, isLive, hasLiveTask, withLabel, withSpare, withPc, register, withRegister, next}
 use Rattle.machine.specs.Effect.{Action, noAction, deliver, spawn, Outcome, withoutAction, stopped, childOf, receivable, oldest, taken, execute}
-use Rattle.machine.specs.Turn.{ofLabel, hasRoom, enqueue, perform, applied}
+use Rattle.machine.specs.Turn.{hasRoom, enqueue, perform, applied}
 use Rattle.machine.specs.Post.{mailOf, hasMore}
 use Rattle.machine.proofs.Post.{deliver-more}
-use Rattle.table.specs.Change.{noMessage, taskOr, taskAt, messageAt, changeSlot, change, slotWithKind, withMessage, withoutMessage}
+use Rattle.table.specs.Change.{noMessage, taskOr, taskAt, Used, messageAt, changeSlot, change, slotWithKind, withMessage, withoutMessage}
 use Rattle.table.proofs.Change.{change-same, change-none, change-set, change-at, change-here}
-use Rattle.turn.specs.Effects.{executed, GoesOn, Ready, WasDecoded, isGiven}
+use Rattle.turn.specs.Effects.{executed, accepts, RoomFor, GoesOn, Ready, WasDecoded, isGiven}
 
 -- what y is added to where the sum wraps to x
 subtracted : (z x y : ℕ) → z < 2 ^ 32 → y < 2 ^ 32 → (z + y) % 2 ^ 32 ≡ x → z ≡ (x + 2 ^ 32 - y) % 2 ^ 32
@@ -177,53 +177,61 @@ module _ {s : ℕ} {ss : List Slot} (ready : Ready s ss) where
 
 -- ---- a message delivered to a slot
 
-pub few-room : (l : ℕ) (ms : List Message) {n : ℕ} → n ≡ length (ofLabel l ms) → n < 4 → hasRoom l ms ≡ true
-few-room l ms {n} counted few = rw (← counted) (lt-ltb n 4 few)
+-- a slot that accepts a message has room for it in the table
+pub accepts-room : (ss : List Slot) (to l : ℕ) → accepts l (slotAt ss to) ≡ true → RoomFor l (taskAt ss to .mailbox) → Used to ss × (length (taskAt ss to .mailbox) < 64)
+accepts-room ss to l = there (slotAt ss to)
+  where
+    there : (x : Slot) → accepts l x ≡ true → RoomFor l (taskOr x .mailbox) → (x ≡ used (taskOr x)) × (length (taskOr x .mailbox) < 64)
+    there unused e room = let z : _≡_ {A = ℕ} 0 1 = cc in absurd (omega arith)
+    there (used t) e room = (refl, room .1 (and-both (isLive t) (hasRoom l (t .mailbox)) e .1))
+
+-- k: the kind that was read
+module _ (ss : List Slot) (to l : ℕ) {k : ℕ} (kind : k ≡ taskAt ss to .kind) where
+  pub accepts-live : k ≡ 1 → hasRoom l (taskAt ss to .mailbox) ≡ accepts l (slotAt ss to)
+  accepts-live live = by-room (slotAt ss to) (sym kind ∙ live)
+    where
+      by-room : (x : Slot) → taskOr x .kind ≡ 1 → hasRoom l (taskOr x .mailbox) ≡ accepts l x
+      by-room unused e = absurd (omega arith)
+      by-room (used t) e = rw e
+
+  pub accepts-stopped : k ≢ 1 → false ≡ accepts l (slotAt ss to)
+  accepts-stopped stopped = not-live (slotAt ss to) (λ e. stopped (kind ∙ e))
+    where
+      not-live : (x : Slot) → taskOr x .kind ≢ 1 → false ≡ accepts l x
+      not-live unused e = refl
+      not-live (used t) e = rw (ne-eqb (t .kind) 1 e)
+
+-- there is no slot above 15
+pub accepts-beyond : (ss : List Slot) (to l : ℕ) → length ss ≤ to → false ≡ accepts l (slotAt ss to)
+accepts-beyond ss to l past = rw (List·getD-eq-default ss unused past)
 
 module _ (ss : List Slot) (to : ℕ) (m : Message) where
   -- the slots after the delivery, and whether the message joined
   abbrev Delivered : List Slot → Bool → Type 0
   Delivered after joined = (after ≡ perform (deliver to m) ss) × (joined ≡ hasMore to ss after)
 
-  -- it joins where this passes
-  abbrev takes : Slot → Bool
-  takes x = isLive (taskOr x) && hasRoom (m .label) (taskOr x .mailbox)
-
-  told : {after : List Slot} {joined : Bool} → takes (slotAt ss to) ≡ joined → after ≡ perform (deliver to m) ss → Delivered after joined
+  told : {after : List Slot} {joined : Bool} → accepts (m .label) (slotAt ss to) ≡ joined → after ≡ perform (deliver to m) ss → Delivered after joined
   told e f = (f, sym (ap (hasMore to ss) f ∙ deliver-more m ss to ∙ same (slotAt ss to) ∙ e))
     where
-      same : (x : Slot) → (hasLiveTask x && hasRoom (m .label) (mailOf x)) ≡ takes x
+      same : (x : Slot) → (hasLiveTask x && hasRoom (m .label) (mailOf x)) ≡ accepts (m .label) x
       same unused = refl
       same (used t) = refl
 
-  -- a live task with fewer than four of its label gets it
-  pub deliver-joins : {kind n : ℕ} → kind ≡ taskAt ss to .kind → kind ≡ 1 → n ≡ length (ofLabel (m .label) (taskAt ss to .mailbox)) → n < 4
-      → {after : List Slot} → after ≡ change to (withMessage m) ss → Delivered after true
-  deliver-joins {n = n} e live counted few changed =
-      let room = few-room (m .label) (taskAt ss to .mailbox) counted few in
-      told (rw (← e, live, room)) (changed ∙ ap (set ss to) (joins (slotAt ss to) (sym e ∙ live) room))
+  -- a slot that accepts the message gets it
+  pub deliver-joins : accepts (m .label) (slotAt ss to) ≡ true → {after : List Slot} → after ≡ change to (withMessage m) ss → Delivered after true
+  deliver-joins e changed = told e (changed ∙ ap (set ss to) (joins (slotAt ss to) e))
     where
-      joins : (x : Slot) → taskOr x .kind ≡ 1 → hasRoom (m .label) (taskOr x .mailbox) ≡ true → changeSlot (withMessage m) x ≡ enqueue m x
-      joins unused live room = refl
-      joins (used t) live room = rw (live, room)
+      joins : (x : Slot) → accepts (m .label) x ≡ true → changeSlot (withMessage m) x ≡ enqueue m x
+      joins unused e = refl
+      joins (used t) e = rw e
 
   -- in all other cases it is dropped
-  drops : takes (slotAt ss to) ≡ false → Delivered ss false
-  drops lacks = told lacks (sym (set-getD ss to unused) ∙ ap (set ss to) (stays (slotAt ss to) lacks))
+  pub deliver-drops : accepts (m .label) (slotAt ss to) ≡ false → Delivered ss false
+  deliver-drops e = told e (sym (set-getD ss to unused) ∙ ap (set ss to) (stays (slotAt ss to) e))
     where
-      stays : (x : Slot) → takes x ≡ false → x ≡ enqueue m x
-      stays unused lacks = refl
-      stays (used t) lacks = rw lacks
-
-  pub deliver-full : {n : ℕ} → n ≡ length (ofLabel (m .label) (taskAt ss to .mailbox)) → 4 ≤ n → Delivered ss false
-  deliver-full {n} counted full = drops (rw (← counted, le-ltb n 4 full, and-false))
-
-  -- there is no slot above 15
-  pub deliver-beyond : length ss ≤ to → Delivered ss false
-  deliver-beyond past = drops (rw (List·getD-eq-default ss unused past))
-
-  pub deliver-stopped : {kind : ℕ} → kind ≡ taskAt ss to .kind → kind ≢ 1 → Delivered ss false
-  deliver-stopped {kind} e stopped = drops (rw (← e, ne-eqb kind 1 stopped))
+      stays : (x : Slot) → accepts (m .label) x ≡ false → x ≡ enqueue m x
+      stays unused e = refl
+      stays (used t) e = rw e
 
 -- ---- a task that goes on still does once a field other than its place has changed
 

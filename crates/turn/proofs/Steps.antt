@@ -33,8 +33,8 @@ pub valid-room : {s : State} → Valid s → (j l : ℕ) → l ≤ 15 → RoomFo
 valid-room {s} ok j = roomy (slotAt (s .slots) j) (slot-facts (count (s .program)) j (slotAt (s .slots) j) (ok .tasks j))
   where
     roomy : (x : Slot) → SlotFacts (count (s .program)) j x → (l : ℕ) → l ≤ 15 → RoomFor l (taskOr x .mailbox)
-    roomy unused f l h room = omega arith
-    roomy (used t) f l h room = mailbox-room (t .mailbox) (f .mailbox) l h room
+    roomy unused f l h = (h, λ room. omega arith)
+    roomy (used t) f l h = (h, mailbox-room (t .mailbox) (f .mailbox) l h)
 
 -- ---- what a live task does with its turn
 

@@ -1,7 +1,7 @@
 -- The slots once a task has carried out an instruction, and what that rests on.
 use Prim.Native.Nat.{ℕ, _+_, _≤_, _<_}
 use mathlib.Core.Path.{_≡_}
-use mathlib.Core.Bool.{Bool, true, false}
+use mathlib.Core.Bool.{Bool, true, false, _&&_}
 use mathlib.Core.Option.{Option, none, some}
 use mathlib.Core.List.{List}
 use lib.ListN.{length}
@@ -9,7 +9,8 @@ use Rattle.label.specs.Label.{flows, join}
 use Rattle.instruction.specs.declared.Instruction.{Instruction}
 use Rattle.instruction.specs.declared.Decoded.the-variants.{Legal}
 use Rattle.instruction.specs.Table.{decode}
-use Rattle.machine.specs.State.{Message, Slot}
+use Rattle.machine.specs.Limits.{highestLabel}
+use Rattle.machine.specs.State.{Message, Slot, unused, used, isLive}
 use Rattle.machine.specs.Effect.{execute}
 use Rattle.machine.specs.Turn.{hasRoom, applied}
 use Rattle.table.specs.Table.{mailboxRoom}
@@ -19,9 +20,14 @@ use Rattle.table.specs.Change.{taskAt, Used}
 unfoldable pub executed : Instruction → ℕ → List Slot → List Slot
 executed i s ss = applied s (execute flows join i s (taskAt ss s)) ss
 
--- a mailbox with fewer than four messages of label l has room in the table for one more
+-- a live task that has fewer than four messages of label l
+abbrev pub accepts : ℕ → Slot → Bool
+accepts l unused = false
+accepts l (used t) = isLive t && hasRoom l (t .mailbox)
+
+-- l is a label, and a mailbox with fewer than four messages of it has room in the table for one more
 abbrev pub RoomFor : ℕ → List Message → Type 0
-RoomFor l ms = hasRoom l ms ≡ true → length ms < mailboxRoom
+RoomFor l ms = (l ≤ highestLabel) × (hasRoom l ms ≡ true → length ms < mailboxRoom)
 
 -- the task in slot s is there, and its place can go up
 pub record GoesOn (s : ℕ) (ss : List Slot) : Type 0 where

@@ -14,7 +14,7 @@ ghost use Rattle.machine.specs.Machine.{turns, busy};
 ghost use Rattle.machine.specs.Inner.{bottomOf, topBehind, topOf, Within};
 ghost use Rattle.table.specs.Table.{slotsIn, stateIn};
 ghost use Rattle.table.specs.Change.{taskAt, messageAt, change, withoutMessage};
-ghost use Rattle.turn.specs.Effects.{executed, RoomFor, GoesOn, Ready, WasDecoded, isGiven};
+ghost use Rattle.turn.specs.Effects.{executed, accepts, RoomFor, GoesOn, Ready, WasDecoded, isGiven};
 ghost use Rattle.turn.specs.Answer.{runTold, NextLive};
 use instruction::Instruction;
 
@@ -101,6 +101,19 @@ fn identity(table: &mut table::Table, slot: u8, a: u8, b: u8)
 
 // ---- messages
 
+// Whether slot `to` has a live task with fewer than four messages of the label. A number above 15 names no slot.
+fn accepts(table: &table::Table, to: u32, label: u8) -> bool
+    requires { ⌜ label ≤ 15 ⌝ }
+    ensures { λ r. ⌜ r ≡ accepts label (slotAt (slotsIn (now (table .entry))) to) ⌝ }
+{
+    if to < 16 {
+        if table::kind(table, to as usize) == 1 {
+            return table::has_room(table, to as usize, label);
+        }
+    }
+    false
+}
+
 // The message joins the mailbox of a live task that has fewer than four of its label; in all other cases it is dropped. Tells
 // whether it joined.
 pub fn deliver(table: &mut table::Table, to: u32, label: u8, sender: u8, value: u32) -> bool
@@ -109,19 +122,16 @@ pub fn deliver(table: &mut table::Table, to: u32, label: u8, sender: u8, value: 
         ≡ perform (deliver to (record { label = label; sender = sender; value = value })) (slotsIn (now (table .entry))))
         × (r ≡ hasMore to (slotsIn (now (table .entry))) (slotsIn (now (table .exit)))) ⌝ }
 {
-    if to < 16 {
-        if table::kind(table, to as usize) == 1 {
-            if table::count_label(table, to as usize, label) < 4 {
-                table::append(table, to as usize, label, sender, value);
-                return true;
-            }
-        }
+    if accepts(table, to, label) {
+        table::append(table, to as usize, label, sender, value);
+        true
+    } else {
+        false
     }
-    false
 }
 
 // Sends register c under label b to the slot numbered in register a. Where the task's label does not flow to b it gets kind 4,
-// and nothing is sent.
+// and nothing is sent. The message is delivered here and not by a call of `deliver`, which would save and load registers.
 fn send(table: &mut table::Table, slot: u8, a: u8, b: u8, c: u8)
     requires { ⌜ Ready slot (slotsIn (now table)) × WasDecoded (Send a b c) ⌝ }
     ensures { λ _. ⌜ slotsIn (now (table .exit)) ≡ executed (Send a b c) slot (slotsIn (now (table .entry))) ⌝ }
@@ -130,7 +140,9 @@ fn send(table: &mut table::Table, slot: u8, a: u8, b: u8, c: u8)
         let to = table::register(table, slot as usize, a as usize);
         let value = table::register(table, slot as usize, c as usize);
         advance(table, slot);
-        deliver(table, to, b, slot, value);
+        if accepts(table, to, b) {
+            table::append(table, to as usize, b, slot, value);
+        }
     } else {
         table::set_kind(table, slot as usize, 4);
     }
@@ -333,7 +345,7 @@ fn next_live(table: &table::Table, first: usize, stop: usize) -> usize
 }
 
 // The turns of the slots from `first` up to `end`, each followed by the next: how many met a live task. The slots below `bottom` and
-// from `top` on are unused and stay so, and are passed over.
+// from `top` on are unused and stay so, and are passed over. Counted are the others that meet none, which are fewer where it matters.
 fn round(table: &mut table::Table, program: &[u8], first: u8, end: u8, bottom: u8, top: u8) -> u64
     requires { ⌜ Valid (stateIn (now program) first (now table)) × (first ≤ end) × (end ≤ 16) × Within bottom top (slotsIn (now table)) ⌝ }
     ensures { λ r. ⌜ (r ≡ busy (end - first) (stateIn (now (program .entry)) first (now (table .entry))))
@@ -341,18 +353,20 @@ fn round(table: &mut table::Table, program: &[u8], first: u8, end: u8, bottom: u
         ≡ turns (end - first) (stateIn (now (program .entry)) first (now (table .entry)))) ⌝ }
 {
     let stop = min(end, top) as usize;
-    let mut busy: u64 = 0;
-    let mut slot = max(first, bottom) as usize;
+    let from = max(first, bottom) as usize;
+    let mut idle: usize = 0;
+    let mut slot = from;
     while slot < stop {
         if table::kind(table, slot) == 1 {
             act(table, program, slot as u8);
-            busy += 1;
             slot += 1;
         } else {
-            slot = next_live(table, slot + 1, stop);
+            let next = next_live(table, slot + 1, stop);
+            idle += next - slot;
+            slot = next;
         }
     }
-    busy
+    (slot - from - idle) as u64
 }
 
 // The slot behind a round: slot 15 is followed by slot 0.

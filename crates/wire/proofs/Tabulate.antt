@@ -1,5 +1,5 @@
 -- Laws of lists made from a function of the index.
-use mathlib.Core.Path.{_≡_, refl, ap}
+use mathlib.Core.Path.{_≡_, refl, ap, ap₂}
 use mathlib.Core.List.{List, [], _∷_, _++_}
 use Prim.Native.Nat.{ℕ, zero, suc, _<_, _≤_}
 use native.Mathlib.Nat.{le-of-suc-le-suc, not-suc-le-zero}
@@ -55,6 +55,16 @@ module _ {A : Type 0} where
   take-tabulate zero n f h = refl
   take-tabulate (suc k) zero f h = absurd (not-suc-le-zero h)
   take-tabulate (suc k) (suc n) f h = ap (λ (r : List A). f 0 ∷ r) (take-tabulate k n (λ i. f (suc i)) (le-of-suc-le-suc h))
+
+  -- one element more
+  pub tabulate-append : (n : ℕ) (f g : ℕ → A) (y : A) → ((i : ℕ) → i < n → g i ≡ f i) → g n ≡ y → tabulate (suc n) g ≡ tabulate n f ++ (y ∷ [])
+  unfolding tabulate
+  tabulate-append zero f g y h e = rw e
+  tabulate-append (suc n) f g y h e =
+      let first : g 0 ≡ f 0 = h 0 (omega arith) in
+      let rest : tabulate (suc n) (λ i. g (suc i)) ≡ tabulate n (λ i. f (suc i)) ++ (y ∷ []) =
+      tabulate-append n (λ i. f (suc i)) (λ i. g (suc i)) y (λ i l. h (suc i) (omega arith)) e in
+      ap₂ (λ (a : A) (l : List A). a ∷ l) first rest
 
   -- element k gone
   pub tabulate-without : (n : ℕ) (f g : ℕ → A) (k : ℕ) → k ≤ n → ((i : ℕ) → i < k → g i ≡ f i) → ((i : ℕ) → k ≤ i → i < n → g i ≡ f (suc i))

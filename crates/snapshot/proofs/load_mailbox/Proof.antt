@@ -24,7 +24,8 @@ append-requires c κs =
     let h = c .before .before .before .before .before .before .loop in
     let b = c .before .before .before .before .before .before .before .before in
     let here = messages-here (b .args .slot) (h .i) (now (b .args .mailbox)) (slotsIn (now (b .args .table))) (b .pre .0) in
-    rw (h .inv .1) (here .0, omega (arith, here .1, b .pre .1))
+    let label : c .before .byte .result ≤ 15 = rw (c .before .byte .ensures) (b .pre .2 (h .i) (omega arith)) in
+    rw (h .inv .1) (here .0, omega (arith, here .1, b .pre .1), label)
 
 loop-again : tie.Need-loop-again Inv-loop μ-loop
 loop-again c =

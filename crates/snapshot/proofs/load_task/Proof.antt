@@ -27,7 +27,7 @@ load-mailbox-requires : tie.Need-load-mailbox-requires
 load-mailbox-requires c κs =
     let b = c .before .before .before .before .before .before .before .before .before .before .before .before .before in
     let here = registers-here (now (b .args .bytes)) (b .pre .1) (b .args .slot) (slotsIn (now (b .args .table))) (omega (arith, b .pre .0, length-slots (now (b .args .table)))) in
-    rw (put (c .before .before), from-on) (here .0, omega (arith, here .1, b .pre .1 .messages))
+    rw (put (c .before .before), from-on) (here .0, omega (arith, here .1, b .pre .1 .messages), b .pre .1 .labels)
 
 returns : tie.Need-returns
 returns c =

@@ -9,7 +9,7 @@ use Rattle.table.proofs.clear.Tie as tie
 returns : tie.Need-returns
 returns c =
     let b = c .before .before in
-    clear-slots (now (b .args .t)) (c .put .last .0) (b .args .s) 0 (c .put .ensures .0) (omega arith) (c .put .ensures .1) (b .pre) refl
+    clear-slots (now (b .args .t)) (c .put .last .0) (b .args .s) 0 (omega arith) (c .put .ensures) (b .pre) refl
 
 pub clear-spec : {M : Type 1} → statement M
 clear-spec = tie.close (tie.spec (λ c κs. omega arith) returns)

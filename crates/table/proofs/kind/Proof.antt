@@ -1,6 +1,5 @@
 -- `table::kind` meets its contract: the low byte of its word, which is 0 in an unused slot.
 use Prim.Native.Nat.{ℕ, _%_}
-use borrow.Author.Needs.{needs}
 use mathlib.Core.Path.{sym, ap, _∙_}
 use native.Mathlib.Omega.{arith}
 use denote.Ref.{now}
@@ -10,8 +9,8 @@ use Rattle.table.proofs.kind.Tie as tie
 
 returns : tie.Need-returns
 returns c =
-    let b = c .before in
-    ap (λ (x : ℕ). x % 256) (c .word .ensures .1) ∙ sym (kind-read (now (b .args .t)) (b .args .s) (b .pre))
+    let b = c .before .before in
+    c .byte .ensures ∙ ap (λ (x : ℕ). x % 256) (c .before .word .ensures) ∙ sym (kind-read (now (b .args .t)) (b .args .s) (b .pre))
 
 pub kind-spec : {M : Type 1} → statement M
-kind-spec = tie.close (tie.spec (λ c κs. omega arith) (λ c. search needs) returns)
+kind-spec = tie.close (tie.spec (λ c κs. omega arith) (λ c κs. tt) returns)

@@ -1,71 +1,53 @@
--- `table::oldest` meets its contract: no message before the one at index i has a label that flows to the given one.
-use Prim.Native.Nat.{ℕ, _-_, _≤_, _%_}
-use mathlib.Core.Path.{_≡_, sym, _∙_}
+-- `table::oldest` meets its contract: the first of the 64 that flows, if it is there.
+use Prim.Native.Nat.{ℕ, min}
+use mathlib.Core.Path.{_≡_}
 use mathlib.Core.Bool.{Bool}
 use native.Mathlib.Omega.{arith}
 use denote.Ref.{now}
-use lib.ListN.{length}
+use lib.Count.{trailingZeros, trailing-le}
 use Rattle.wire.specs.Inner.{firstIndex}
-use Rattle.wire.proofs.Lists.{first-here, first-next, first-past, first-alike}
+use Rattle.wire.proofs.Lists.{first-le}
 use Rattle.label.specs.Label.{flows}
-use Rattle.table.specs.Table.{slotsIn}
+use Rattle.machine.specs.State.{Message}
+use Rattle.table.specs.Table.{messageIn, slotsIn}
 use Rattle.table.specs.Change.{taskAt}
+use Rattle.table.proofs.Slots.{used-slot}
+use Rattle.table.proofs.Mailbox.{first-read}
 use Rattle.table.proofs.oldest.Statement.{statement}
 use Rattle.table.proofs.oldest.Tie as tie
 
--- whether the message with this word flows to the label
-abbrev flowing : ℕ → ℕ → Bool
-flowing label x = flows (x % 256) label
+-- what is looked for
+abbrev wanted : ℕ → Message → Bool
+wanted label m = flows (m .label) label
 
-abbrev Inv-loop : tie.InvT-loop
-Inv-loop t s label words i₀ i = (i ≤ length words) × (i ≤ firstIndex (flowing label) words)
-
-abbrev μ-loop : tie.MeasureT-loop
-μ-loop t s label words i₀ i = length words - i
-
--- what is found among the words is found in the mailbox
-found : (c : tie.After-labels Inv-loop μ-loop)
-    → firstIndex (flowing (c .before .args .label)) (now (c .labels .result))
-    ≡ firstIndex (λ m. flows (m .label) (c .before .args .label)) (taskAt (slotsIn (now (c .before .args .t))) (c .before .args .s) .mailbox)
-found c =
-    let a = c .before .args in
-    let mailbox = taskAt (slotsIn (now (a .t))) (a .s) .mailbox in
-    first-alike (λ x. flows x (a .label)) (λ x. x % 256) (λ m. m .label) (now (c .labels .result)) mailbox (c .labels .ensures .0)
-
-returns : tie.Need-returns Inv-loop μ-loop
+returns : tie.Need-returns
 returns c =
-    let h = c .before .before .before .before .loop in
-    let f = c .before .before .before .before .before in
-    let passes = sym (c .before .flows .ensures) ∙ c .if1 .taken in
-    first-here (flowing (f .before .args .label)) (now (f .labels .result)) (h .i) 0 (omega arith) passes (h .inv .1) ∙ found f
+    let a = c .before .before .args in
+    omega (arith, first-le (wanted (a .label)) (taskAt (slotsIn (now (a .t))) (a .s) .mailbox), c .before .mailbox-length .ensures .0)
 
-loop-again : tie.Need-loop-again Inv-loop μ-loop
-loop-again c =
-    let h = c .before .before .before .before .loop in
-    let f = c .before .before .before .before .before in
-    let fails = sym (c .before .flows .ensures) ∙ c .if1 .left in
-    (omega arith, first-next (flowing (f .before .args .label)) (now (f .labels .result)) (h .i) 0 (omega arith) fails (h .inv .1))
+-- the first of the 64, or how many there are
+found : (c : tie.After-flowing) → let a = c .before .before .before .args in
+    firstIndex (wanted (a .label)) (taskAt (slotsIn (now (a .t))) (a .s) .mailbox) ≡ min (trailingZeros 64 (c .flowing .result)) (c .before .before .mailbox-length .result)
+unfolding messageIn
+found c =
+    let b = c .before .before .before in
+    let a = b .args in
+    let n = c .before .before .mailbox-length in
+    first-read (now (a .t)) (a .s) (b .pre) (wanted (a .label)) (c .flowing .result) (n .result) (c .flowing .ensures) (n .ensures .0) (n .ensures .1) (c .flowing .ok)
 
-returns-2 : tie.Need-returns-2 Inv-loop μ-loop
-returns-2 c =
-    let h = c .before .loop in
-    let f = c .before .before in
-    first-past (flowing (f .before .args .label)) (now (f .labels .result)) (h .i) (omega arith) (h .inv .1) ∙ found f
+returns-2 : tie.Need-returns-2
+returns-2 c = omega (arith, found (c .before))
+
+returns-3 : tie.Need-returns-3
+returns-3 c = omega (arith, found (c .before))
 
 pub oldest-spec : {M : Type 1} → statement M
 oldest-spec =
     tie.close
     (tie.spec
-    Inv-loop
-    μ-loop
     (λ c κs. c .pre)
-    (λ c. (omega arith, omega arith))
-    (λ c. omega arith)
-    (λ c. omega arith)
-    (λ c. omega arith)
-    (λ c κs. tt)
     returns
-    (λ c. omega arith)
-    (λ c. omega arith)
-    loop-again
-    returns-2)
+    (λ c κs. omega (arith, used-slot _ _ (c .before .before .pre)))
+    (λ c. omega (arith, trailing-le 64 (c .flowing .result)))
+    returns-2
+    returns-3)

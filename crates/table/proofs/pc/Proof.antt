@@ -1,4 +1,6 @@
--- `table::pc` meets its contract: its word.
+-- `table::pc` meets its contract: the low four bytes of its word.
+use Prim.Native.Nat.{ℕ, _%_}
+use mathlib.Core.Path.{ap, _∙_}
 use native.Mathlib.Omega.{arith}
 use denote.Ref.{now}
 use Rattle.table.specs.Table.{taskIn}
@@ -9,8 +11,8 @@ use Rattle.table.proofs.pc.Tie as tie
 returns : tie.Need-returns
 unfolding taskIn
 returns c =
-    let b = c .before in
-    rw (used-task (now (b .args .t)) (b .args .s) (b .pre)) (c .word .ensures .1)
+    let b = c .before .before in
+    rw (used-task (now (b .args .t)) (b .args .s) (b .pre)) (c .four .ensures ∙ ap (λ (x : ℕ). x % 4294967296) (c .before .word .ensures))
 
 pub pc-spec : {M : Type 1} → statement M
-pc-spec = tie.close (tie.spec (λ c κs. omega (arith, used-slot _ _ (c .pre))) returns)
+pc-spec = tie.close (tie.spec (λ c κs. omega (arith, used-slot _ _ (c .pre))) (λ c κs. tt) returns)

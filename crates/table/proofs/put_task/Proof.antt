@@ -21,12 +21,12 @@ returns c =
     slots-set
     (stored-then
     (stored-then
-    (stored-then (stored-then (cleared .clear-fields .ensures) (kind .put .ensures .1)) (label .put2 .ensures .1))
-    (spare .put3 .ensures .1))
-    (c .put4 .ensures .1))
+    (stored-then (stored-then (cleared .clear-fields .ensures) (kind .put .ensures)) (label .put2 .ensures))
+    (spare .put3 .ensures))
+    (c .put4 .ensures))
     (b .pre)
     (held (newTask (a .kind) (a .label) (a .spare) (a .pc)))
-    (ap held (task-stored (a .kind) (a .label) (a .spare) (a .pc) (window (now (a .t)) (a .s)) (omega arith) (omega arith) (omega arith)))
+    (ap held (task-stored (a .kind) (a .label) (a .spare) (a .pc) (window (now (a .t)) (a .s)) (omega arith) (omega arith) (omega arith) (omega arith)))
 
 pub put-task-spec : {M : Type 1} → statement M
 put-task-spec =

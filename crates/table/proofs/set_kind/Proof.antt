@@ -10,7 +10,7 @@ returns : tie.Need-returns
 returns c =
     let b = c .before .before in
     let a = b .args in
-    kind-slots (now (a .t)) (c .put .last .0) (a .s) (a .x) (c .put .ensures .0) (omega arith) (c .put .ensures .1) (b .pre)
+    kind-slots (now (a .t)) (c .put .last .0) (a .s) (a .x) (omega arith) (c .put .ensures) (b .pre)
 
 pub set-kind-spec : {M : Type 1} → statement M
 set-kind-spec = tie.close (tie.spec (λ c κs. omega (arith, used-slot _ _ (c .before .pre))) returns)

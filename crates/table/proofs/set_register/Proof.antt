@@ -14,8 +14,8 @@ returns : tie.Need-returns
 returns c =
     let b = c .before .before in
     let a = b .args in
-    slots-change (c .put .ensures .1) (b .pre .0) (c .put .ensures .0) (withRegister (a .a) (a .x)) (λ k. refl)
-    (λ long. register-stored (a .a) (a .x) (window (now (a .t)) (a .s)) long (b .pre .1))
+    slots-change (c .put .ensures) (b .pre .0) (withRegister (a .a) (a .x)) (λ k. refl)
+    (λ long. register-stored (a .a) (a .x) (window (now (a .t)) (a .s)) long (b .pre .1) (omega arith))
 
 pub set-register-spec : {M : Type 1} → statement M
 set-register-spec = tie.close (tie.spec (λ c. search needs) (λ c κs. omega arith) returns)

@@ -13,7 +13,7 @@ returns : tie.Need-returns
 returns c =
     let b = c .before .before in
     let a = b .args in
-    slots-change (c .put .ensures .1) (b .pre) (c .put .ensures .0) (withSpare (a .x)) (λ k. refl) (λ long. spare-stored (a .x) (window (now (a .t)) (a .s)) long (omega arith))
+    slots-change (c .put .ensures) (b .pre) (withSpare (a .x)) (λ k. refl) (λ long. spare-stored (a .x) (window (now (a .t)) (a .s)) long (omega arith))
 
 pub set-spare-spec : {M : Type 1} → statement M
 set-spare-spec = tie.close (tie.spec (λ c κs. omega arith) returns)

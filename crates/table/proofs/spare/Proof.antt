@@ -1,7 +1,6 @@
 -- `table::spare` meets its contract: the low byte of its word.
 use Prim.Native.Nat.{ℕ, _%_}
-use borrow.Author.Needs.{needs}
-use mathlib.Core.Path.{ap}
+use mathlib.Core.Path.{ap, _∙_}
 use native.Mathlib.Omega.{arith}
 use denote.Ref.{now}
 use Rattle.table.specs.Table.{taskIn}
@@ -12,8 +11,8 @@ use Rattle.table.proofs.spare.Tie as tie
 returns : tie.Need-returns
 unfolding taskIn
 returns c =
-    let b = c .before in
-    rw (used-task (now (b .args .t)) (b .args .s) (b .pre)) (ap (λ (x : ℕ). x % 256) (c .word .ensures .1))
+    let b = c .before .before in
+    rw (used-task (now (b .args .t)) (b .args .s) (b .pre)) (c .byte .ensures ∙ ap (λ (x : ℕ). x % 256) (c .before .word .ensures))
 
 pub spare-spec : {M : Type 1} → statement M
-spare-spec = tie.close (tie.spec (λ c κs. omega (arith, used-slot _ _ (c .pre))) (λ c. search needs) returns)
+spare-spec = tie.close (tie.spec (λ c κs. omega (arith, used-slot _ _ (c .pre))) (λ c κs. tt) returns)

@@ -9,7 +9,7 @@ use Rattle.table.proofs.word.Tie as tie
 returns : tie.Need-returns
 returns c =
     let a = c .before .before .args in
-    (omega arith, c .fetch .ensures ∙ word-at (now (a .t)) (a .s) (a .i) (omega arith))
+    c .fetch .ensures ∙ word-at (now (a .t)) (a .s) (a .i) (omega arith)
 
 pub word-spec : {M : Type 1} → statement M
 word-spec = tie.close (tie.spec (λ c. omega arith) (λ c. omega arith) (λ c κs. omega arith) returns)

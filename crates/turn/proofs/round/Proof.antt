@@ -1,5 +1,5 @@
 -- `turn::round` meets its contract: at each slot the table holds the state after the turns of the slots before it.
-use Prim.Native.Nat.{ℕ, _+_, _-_, _%_, _≤_, _<_, min}
+use Prim.Native.Nat.{ℕ, _+_, _-_, _%_, _^_, _≤_, _<_, min}
 use mathlib.Core.Path.{_≡_}
 use mathlib.Core.Logic.{dite}
 use mathlib.Core.List.{List}
@@ -9,7 +9,6 @@ use native.Mathlib.Omega.{arith}
 use borrow.Author.Tests.{leb-true}
 use denote.Ref.{now}
 use Rattle.machine.specs.State.{Slot, State, slotAt, hasLiveTask}
-use Rattle.machine.proofs.Machine.{busy-most}
 use Rattle.machine.proofs.Bounds.{idle-below, idle-above}
 use Rattle.table.specs.Table.{slotsIn, stateIn}
 use Rattle.turn.proofs.Steps.{kind-live, kind-idle, Ran, ran-none, ran-live, ran-past, ran-valid, ran-within}
@@ -18,11 +17,25 @@ use Rattle.turn.proofs.round.Tie as tie
 
 -- no slot behind the last of the round has its turn
 abbrev Inv-loop : tie.InvT-loop
-Inv-loop table₀ program first end bottom top stop busy₀ slot₀ table busy slot =
-    (first ≤ slot) × Ran (stateIn program first table₀) program (min slot end - first) (min slot end % 16) (slotsIn table) busy
+Inv-loop table₀ program first end bottom top stop from idle₀ slot₀ table idle slot =
+    (first ≤ slot) × (from ≤ slot) × (from + idle ≤ slot)
+    × Ran (stateIn program first table₀) program (min slot end - first) (min slot end % 16) (slotsIn table) (slot - from - idle)
 
 abbrev μ-loop : tie.MeasureT-loop
-μ-loop table₀ program first end bottom top stop busy₀ slot₀ table busy slot = stop - slot
+μ-loop table₀ program first end bottom top stop from idle₀ slot₀ table idle slot = stop - slot
+
+-- a turn more that met a live task, and turns more that met none
+one-met : (from idle slot : ℕ) → from + idle ≤ slot → slot - from - idle + 1 ≡ slot + 1 - from - idle
+one-met from idle slot h = omega arith
+
+none-met : (from idle slot to : ℕ) → from + idle ≤ slot → slot ≤ to → (slot - from - idle ≡ to - from - (idle + (to - slot))) × (from + (idle + (to - slot)) ≤ to)
+none-met from idle slot to h l = (omega arith, omega arith)
+
+idle-fits : (from idle slot to : ℕ) → from + idle ≤ slot → slot ≤ to → to ≤ 16 → idle + (to - slot) < 2 ^ 64
+idle-fits from idle slot to h l few = omega arith
+
+nearer : (slot to stop : ℕ) → slot < stop → slot < to → stop - to < stop - slot
+nearer slot to stop h l = omega arith
 
 -- what a round begins with
 abbrev start : tie.Start Inv-loop μ-loop → State
@@ -40,25 +53,30 @@ loop-holds c =
     = λ j l h. idle-below (a .bottom) (a .top) (slotsIn (now (a .table))) (b .pre .3) j (omega (arith, c .max .ensures)) in
     let past = ran-past (ran-none (start b)) (m - a .first) low (omega (arith, b .pre .2)) none in
     let first : 0 + (m - a .first) ≡ m - a .first = omega arith in
-    (omega (arith, c .max .ensures), rw first at (rw to at past))
+    let nothing : c .max .result - c .max .result - 0 ≡ 0 = omega arith in
+    (omega (arith, c .max .ensures), omega arith, omega arith, rw nothing (rw first at (rw to at past)))
 
--- a slot in the loop is ahead of the last, the turns before it were those of the slots before it, and few were busy
+-- a slot in the loop is ahead of the last, and the turns before it were those of the slots before it
 at-hand : (c : tie.In-loop Inv-loop μ-loop) → let b = c .before .before .before .before .before in let h = c .before .loop in
-    (h .slot < b .args .end) × Ran (start b) (now (b .args .program)) (h .slot - b .args .first) (h .slot) (slotsIn (h .table)) (h .busy) × (h .busy < 16)
+    (h .slot < b .args .end) × Ran (start b) (now (b .args .program)) (h .slot - b .args .first) (h .slot) (slotsIn (h .table)) (h .slot - c .before .before .max .result - h .idle)
 at-hand c =
     let b = c .before .before .before .before .before in
     let h = c .before .loop in
     let ahead : h .slot < b .args .end = omega (arith, c .before .before .before .min .ensures) in
     let is : min (h .slot) (b .args .end) ≡ h .slot = omega arith in
     let here : h .slot % 16 ≡ h .slot = omega (arith, b .pre .2) in
-    let ran = rw here at (rw is at (h .inv .1)) in
-    (ahead, ran, omega (arith, ran .met-is, busy-most (h .slot - b .args .first) (start b), b .pre .2))
+    (ahead, rw here at (rw is at (h .inv .3)))
 
--- and so it is at a slot behind it that is not behind the last
-further : (c : tie.In-loop Inv-loop μ-loop) (to : ℕ) {ss : List Slot} {busy : ℕ} → let b = c .before .before .before .before .before in
-    to ≤ b .args .end → b .args .first ≤ to → Ran (start b) (now (b .args .program)) (to - b .args .first) (to % 16) ss busy
-    → (b .args .first ≤ to) × Ran (start b) (now (b .args .program)) (min to (b .args .end) - b .args .first) (min to (b .args .end) % 16) ss busy
-further c to l h ran = let b = c .before .before .before .before .before in let is : min to (b .args .end) ≡ to = omega arith in (h, rw is ran)
+-- and so it is at a slot behind it that is not behind the last, where so many more met none
+further : (c : tie.In-loop Inv-loop μ-loop) (to idle : ℕ) {ss : List Slot} {met : ℕ} → let b = c .before .before .before .before .before in let h = c .before .loop in
+    let from = c .before .before .max .result in
+    to ≤ b .args .end → h .slot ≤ to → from + idle ≤ to → Ran (start b) (now (b .args .program)) (to - b .args .first) (to % 16) ss met → met ≡ to - from - idle
+    → (b .args .first ≤ to) × (from ≤ to) × (from + idle ≤ to)
+    × Ran (start b) (now (b .args .program)) (min to (b .args .end) - b .args .first) (min to (b .args .end) % 16) ss (to - from - idle)
+further c to idle l h few ran counted =
+    let b = c .before .before .before .before .before in
+    let is : min to (b .args .end) ≡ to = omega arith in
+    (omega (arith, c .before .loop .inv .0), omega (arith, c .before .loop .inv .1), few, rw (is, ← counted) ran)
 
 live : (c : tie.Then1 Inv-loop μ-loop) → hasLiveTask (slotAt (slotsIn (c .before .before .before .before .loop .table)) (c .before .before .before .before .loop .slot)) ≡ true
 live c = let h = c .before .before .before .before .loop in kind-live (slotsIn (h .table)) (h .slot) (c .before .kind .ensures) (c .if1 .taken)
@@ -73,8 +91,14 @@ loop-again c =
     let h = l .before .loop in
     let a = l .before .before .before .before .before .args in
     let more : h .slot + 1 - a .first ≡ h .slot - a .first + 1 = omega (arith, h .inv .0) in
-    further l (h .slot + 1) (omega (arith, at-hand l .0)) (omega (arith, h .inv .0))
-    (rw more (ran-live (at-hand l .1) (live (c .before .before)) (c .act .ensures)))
+    further l (h .slot + 1) (h .idle) (omega (arith, at-hand l .0)) (omega arith) (omega (arith, h .inv .2))
+    (rw more (ran-live (at-hand l .1) (live (c .before .before)) (c .act .ensures))) (one-met (l .before .before .max .result) (h .idle) (h .slot) (h .inv .2))
+
+-- the next slot is not behind the last
+next-within : (c : tie.After-next-live Inv-loop μ-loop) → c .next-live .result ≤ c .before .before .before .before .before .before .before .before .before .before .args .end
+next-within c =
+    let l = c .before .before .before .before .before in
+    omega (arith, c .next-live .ensures .high, at-hand l .0, l .before .before .before .min .ensures)
 
 -- the turns of slots without one, up to the next that has one
 loop-again-2 : tie.Need-loop-again-2 Inv-loop μ-loop
@@ -89,21 +113,29 @@ loop-again-2 c =
     let none : (j : ℕ) → h .slot ≤ j → j < h .slot + (r - h .slot) → hasLiveTask (slotAt ss j) ≡ false
     = λ j m g. dite (ℕ-discrete j (h .slot)) (λ e. rw e (kind-idle ss (h .slot) (c .before .before .before .kind .ensures) (c .before .before .if1 .left)))
     (λ ne. next .idle j (omega arith) (omega (arith, next .low))) in
-    let within : r ≤ b .args .end = omega (arith, next .high, at .0, l .before .before .before .min .ensures) in
     let past = ran-past (at .1) (r - h .slot) (omega (arith, at .0, b .pre .2)) (omega (arith, next .low, b .pre .2)) none in
     let turns : h .slot - b .args .first + (r - h .slot) ≡ r - b .args .first = omega (arith, h .inv .0, next .low) in
     let slot : h .slot + (r - h .slot) ≡ r = omega (arith, next .low) in
-    further l r within (omega (arith, h .inv .0, next .low)) (rw slot at (rw turns at past))
+    let met = none-met (l .before .before .max .result) (h .idle) (h .slot) r (h .inv .2) (omega (arith, next .low)) in
+    further l r (h .idle + (r - h .slot)) (next-within c) (omega (arith, next .low)) (met .1) (rw slot at (rw turns at past)) (met .0)
+
+add-idle : tie.Need-add-idle Inv-loop μ-loop
+add-idle c =
+    let l = c .before .before .before .before .before in
+    let h = l .before .loop in
+    let fits = idle-fits (l .before .before .max .result) (h .idle) (h .slot) (c .next-live .result) (h .inv .2) (omega (arith, c .next-live .ensures .low))
+    (omega (arith, next-within c, l .before .before .before .before .before .pre .2)) in
+    record { fits = fits }
 
 -- the last slots have none
 at-end : (c : tie.After-loop Inv-loop μ-loop) → let b = c .before .before .before .before .before in let h = c .before .loop in
-    Ran (start b) (now (b .args .program)) (b .args .end - b .args .first) (b .args .end % 16) (slotsIn (h .table)) (h .busy)
+    Ran (start b) (now (b .args .program)) (b .args .end - b .args .first) (b .args .end % 16) (slotsIn (h .table)) (h .slot - c .before .before .max .result - h .idle)
 at-end c =
     let b = c .before .before .before .before .before in
     let a = b .args in
     let h = c .before .loop in
     let m = min (h .slot) (a .end) in
-    let ran = h .inv .1 in
+    let ran = h .inv .3 in
     dite (decLt m (a .end))
     (λ l.
     let here : m % 16 ≡ m = omega (arith, b .pre .2) in
@@ -132,12 +164,15 @@ round-spec =
     (λ c κs. omega (arith, at-hand (c .before) .0, c .before .before .before .before .before .before .pre .2))
     (λ c. omega (arith, at-hand (c .before .before .before .before) .0, c .before .before .before .before .before .before .before .before .before .pre .2))
     act-requires
-    (λ c. omega (arith, at-hand (c .before .before .before .before .before) .2))
     (λ c. omega (arith, at-hand (c .before .before .before .before .before) .0, c .before .before .before .before .before .before .before .before .before .before .pre .2))
     (λ c. omega arith)
     loop-again
     (λ c. omega (arith, at-hand (c .before .before .before .before) .0, c .before .before .before .before .before .before .before .before .before .pre .2))
     (λ c κs. omega (arith, c .before .before .before .before .before .before .before .min .ensures, c .before .before .before .before .before .before .before .before .before .pre .2))
     (λ c. omega (arith, c .next-live .ensures .low))
+    add-idle
+    (λ c. nearer _ _ _ (omega arith) (omega (arith, c .next-live .ensures .low)))
     loop-again-2
+    (λ c. omega (arith, c .before .loop .inv .1))
+    (λ c. omega (arith, c .before .loop .inv .2))
     returns)

@@ -1,0 +1,123 @@
+-- Laws of sets: a word whose bits are right is the set, how many are in it, and which is the first.
+use Prim.Native.Nat.{ℕ, zero, suc, _+_, _-_, _*_, _/_, _%_, _^_, _<_, _≤_, min}
+use mathlib.Core.Path.{_≡_, refl, sym, ap, ap₂, _∙_}
+use mathlib.Core.Logic.{_≢_, dite}
+use mathlib.Core.Bool.{Bool, cond}
+use mathlib.Core.List.{List, [], _∷_}
+use native.Mathlib.Nat.{pow-suc, mod-lt, mod-one, not-suc-le-zero}
+use native.Mathlib.Omega.{arith}
+use native.Mathlib.Decide.{ℕ-discrete}
+use borrow.Author.Tests.{le-leb, lt-leb, lt-ltb, le-ltb}
+use lib.Dec.{leb, ltb}
+use lib.Arith.{mod-mul}
+use lib.ListN.{length, take}
+use lib.Pow.{pow-pos}
+use lib.Bits.{bitAnd, and-step, and-self}
+use lib.Count.{ones, ones-step, trailingZeros, under}
+use Rattle.wire.specs.Lists.{keep, tabulate}
+use Rattle.wire.specs.Inner.{firstIndex}
+use Rattle.wire.proofs.Lists.{split}
+use Rattle.label.specs.Label.{bit}
+use Rattle.label.proofs.Bits.{bit-first, bit-half, two}
+use Rattle.planes.specs.Planes.{setOf}
+
+module _ {A : Type 0} (p : A → Bool) where
+  -- a word whose n low bits are the test's
+  pub set-of-bits : (n : ℕ) (f : ℕ → A) (x : ℕ) → ((i : ℕ) → i < n → bit i x ≡ cond (p (f i)) 1 0) → x % 2 ^ n ≡ setOf p (tabulate n f)
+  unfolding setOf tabulate
+  set-of-bits zero f x h = mod-one x
+  set-of-bits (suc n) f x h =
+      let ih = set-of-bits n (λ i. f (suc i)) (x / 2) (λ i l. sym (bit-half i x) ∙ h (suc i) (omega arith)) in
+      let first : x % 2 ≡ cond (p (f 0)) 1 0 = sym (bit-first x) ∙ h 0 (omega arith) in
+      ap (λ (y : ℕ). x % y) (pow-suc 2 n) ∙ mod-mul x (pow-pos n) (omega arith) ∙ rw (ih, first) (omega arith)
+
+  -- ---- a set by halves
+
+  set-odd : (x : A) (xs : List A) → setOf p (x ∷ xs) % 2 ≡ cond (p x) 1 0
+  unfolding setOf
+  set-odd x xs = split (p x) (λ e. rw e (omega arith)) (λ e. rw e (omega arith))
+
+  set-half : (x : A) (xs : List A) → setOf p (x ∷ xs) / 2 ≡ setOf p xs
+  unfolding setOf
+  set-half x xs = split (p x) (λ e. rw e (omega arith)) (λ e. rw e (omega arith))
+
+  pub ones-set : (xs : List A) → ones (setOf p xs) ≡ length (keep p xs)
+  unfolding setOf ones
+  ones-set [] = refl
+  ones-set (x ∷ xs) =
+      let ih = ones-set xs in
+      ones-step (setOf p (x ∷ xs)) ∙ ap₂ (λ (a b : ℕ). a + ones b) (set-odd x xs) (set-half x xs)
+      ∙ split (p x) (λ e. rw e (omega (arith, ih))) (λ e. rw e (omega (arith, ih)))
+
+  pub first-set : (xs : List A) → trailingZeros (length xs) (setOf p xs) ≡ firstIndex p xs
+  unfolding trailingZeros
+  first-set [] = refl
+  first-set (x ∷ xs) =
+      let ih = first-set xs in
+      ap₂ (λ (a b : ℕ). under a (trailingZeros (length xs) b)) (set-odd x xs) (set-half x xs) ∙ split (p x) (λ e. rw e) (λ e. rw e (ap suc ih))
+
+  -- among the first n, the first is the same or is not there
+  pub first-take : (n : ℕ) (xs : List A) → n ≤ length xs → firstIndex p (take n xs) ≡ min (firstIndex p xs) n
+  first-take zero xs h = omega arith
+  first-take (suc n) [] h = absurd (not-suc-le-zero h)
+  first-take (suc n) (x ∷ xs) h =
+      let ih = first-take n xs (omega arith) in
+      split (p x) (λ e. rw e (omega arith)) (λ e. rw (e, ih) (omega arith))
+
+-- ---- a set without its lowest
+
+abbrev lower : ℕ → ℕ
+lower x = bitAnd x (x - 1)
+
+module _ (x : ℕ) where
+  even-half : x % 2 ≡ 0 → lower x / 2 ≡ lower (x / 2)
+  even-half e =
+      let h : (x - 1) / 2 ≡ x / 2 - 1 = omega arith in
+      let s = and-step x (x - 1) in
+      rw (s, h, e) (omega arith)
+
+  odd-half : x % 2 ≡ 1 → lower x / 2 ≡ x / 2
+  odd-half e =
+      let h : (x - 1) / 2 ≡ x / 2 = omega arith in
+      let m : (x - 1) % 2 ≡ 0 = omega arith in
+      let s = and-step x (x - 1) in
+      rw (s, h, m, and-self (x / 2)) (omega arith)
+
+  lower-even : lower x % 2 ≡ 0
+  lower-even =
+      let even : x % 2 ≡ 0 → lower x % 2 ≡ 0 = λ e. rw (and-step x (x - 1), e) (omega arith) in
+      let odd : x % 2 ≡ 1 → lower x % 2 ≡ 0 = λ e. let d : (x - 1) % 2 ≡ 0 = omega arith in rw (and-step x (x - 1), d) (omega arith) in
+      two (λ y. x % 2 ≡ y → lower x % 2 ≡ 0) even odd (x % 2) (mod-lt x (omega arith)) refl
+
+pub ones-lower : (n x : ℕ) → x < 2 ^ n → (x ≡ 0 → ⊥) → ones (lower x) + 1 ≡ ones x
+ones-lower zero x h z = absurd (z (omega arith))
+ones-lower (suc n) x h z =
+    let k = rw pow-suc at h in
+    let ih = ones-lower n (x / 2) (omega arith) in
+    rw (ones-step (lower x), ones-step x, lower-even x)
+    (two (λ y. x % 2 ≡ y → 0 + ones (lower x / 2) + 1 ≡ x % 2 + ones (x / 2))
+    (λ e. rw (even-half x e, e) (omega (arith, ih (λ q. z (omega arith)))))
+    (λ e. rw (odd-half x e, e) (omega arith))
+    (x % 2) (mod-lt x (omega arith)) refl)
+
+pub ones-zero : ones 0 ≡ 0
+unfolding ones
+ones-zero = refl
+
+-- a word without ones
+pub ones-none : (n x : ℕ) → x < 2 ^ n → ones x ≡ 0 → x ≡ 0
+ones-none zero x h e = omega arith
+ones-none (suc n) x h e =
+    let k = rw pow-suc at h in
+    let s : x % 2 + ones (x / 2) ≡ 0 = sym (ones-step x) ∙ e in
+    let half = ones-none n (x / 2) (omega arith) (omega arith) in
+    omega arith
+
+-- one is left once three are dropped
+pub fourth-left : (set left : ℕ) → left < 2 ^ 64 → ones left ≡ ones set - 1 - 1 - 1 → ltb 0 left ≡ leb 4 (ones set)
+fourth-left set left h e =
+    dite (ℕ-discrete left 0)
+    (λ none. let few : ones set < 4 = omega (arith, ap ones none, ones-zero) in le-ltb 0 left (omega arith) ∙ sym (lt-leb 4 (ones set) few))
+    (λ some.
+    let many : ones left ≢ 0 = λ z. some (ones-none 64 left h z) in
+    lt-ltb 0 left (omega (arith, some)) ∙ sym (le-leb 4 (ones set) (omega (arith, many))))

@@ -1,0 +1,25 @@
+-- Words of 64 bits, one for each message of a mailbox: sets of messages, and the labels of the messages as planes.
+use Prim.Native.Nat.{ℕ, zero, suc, _+_, _*_, _<_}
+use mathlib.Core.Path.{_≡_}
+use mathlib.Core.Bool.{Bool, cond}
+use mathlib.Core.List.{List, [], _∷_}
+use lib.Dec.{ltb}
+use Rattle.label.specs.Label.{bit}
+
+-- the set of the elements at which p passes: bit i is 1 exactly where there is an element i and p passes at it
+unfoldable pub setOf : {A : Type 0} → (A → Bool) → List A → ℕ
+setOf p [] = 0
+setOf p (x ∷ xs) = cond (p x) 1 0 + 2 * setOf p xs
+
+-- the label of message i from n planes: bit i of plane b is bit b of the label
+unfoldable pub labelFrom : ℕ → (ℕ → ℕ) → ℕ → ℕ
+labelFrom zero plane i = 0
+labelFrom (suc n) plane i = bit i (plane 0) + 2 * labelFrom n (λ b. plane (suc b)) i
+
+-- bit i of the word x is f i, for each of the 64
+abbrev pub Bits : (ℕ → ℕ) → ℕ → Type 0
+Bits f x = (i : ℕ) → i < 64 → bit i x ≡ f i
+
+-- the message that is at index i once message k is gone
+abbrev pub behindGap : ℕ → ℕ → ℕ
+behindGap k i = cond (ltb i k) i (suc i)

@@ -1,0 +1,81 @@
+// Words of 64 bits, one for each message of a mailbox: sets of messages, and the labels of the messages as planes of bits.
+ghost use Prim.Native.Nat.{_-_, _<_, _≤_, _^_};
+ghost use mathlib.Core.Path.{_≡_};
+ghost use mathlib.Core.Bool.{cond};
+ghost use lib.Dec.{eqb, leb};
+ghost use lib.Count.{ones};
+ghost use Rattle.label.specs.Label.{bit};
+ghost use Rattle.planes.specs.Planes.{Bits, behindGap};
+
+// ---- sets
+
+// The first n messages.
+pub fn below(n: usize) -> u64
+    requires { ⌜ n ≤ 64 ⌝ }
+    ensures { λ r. ⌜ r ≡ 2 ^ n - 1 ⌝ }
+{
+    if n == 0 {
+        0
+    } else {
+        18446744073709551615 >> (64 - n)
+    }
+}
+
+// A set without its lowest message.
+fn rest(set: u64) -> u64
+    ensures { λ r. ⌜ ones r ≡ ones set - 1 ⌝ }
+{
+    if set == 0 { 0 } else { set & (set - 1) }
+}
+
+// Whether a set has four messages: three are dropped, and what is left tells.
+pub fn has_four(set: u64) -> bool
+    ensures { λ r. ⌜ r ≡ leb 4 (ones set) ⌝ }
+{
+    rest(rest(rest(set))) > 0
+}
+
+// ---- planes: bit i of plane b is bit b of the label of message i
+
+// All bits are bit b of the label. It is written without a branch, and so is what uses it.
+fn spread(label: u8, b: usize) -> u64
+    requires { ⌜ b < 4 ⌝ }
+    ensures { λ r. ⌜ Bits (λ i. bit b label) r ⌝ }
+{
+    std::num::wrapping_sub_u64(0, ((label as u64) >> b) & 1)
+}
+
+// The messages whose bit in plane b is not the label's.
+pub fn unlike(plane: u64, label: u8, b: usize) -> u64
+    requires { ⌜ b < 4 ⌝ }
+    ensures { λ r. ⌜ Bits (λ i. cond (eqb (bit i plane) (bit b label)) 0 1) r ⌝ }
+{
+    plane ^ spread(label, b)
+}
+
+// The messages that have the bit of plane b where the label has not.
+pub fn above(plane: u64, label: u8, b: usize) -> u64
+    requires { ⌜ b < 4 ⌝ }
+    ensures { λ r. ⌜ Bits (λ i. cond (leb (bit i plane) (bit b label)) 0 1) r ⌝ }
+{
+    plane & !spread(label, b)
+}
+
+// The plane with the label's bit b as bit n, whatever that was.
+pub fn with_bit(plane: u64, n: usize, label: u8, b: usize) -> u64
+    requires { ⌜ (n < 64) × (b < 4) ⌝ }
+    ensures { λ r. ⌜ Bits (λ i. cond (eqb i n) (bit b label) (bit i plane)) r ⌝ }
+{
+    let one: u64 = 1 << n;
+    plane ^ (unlike(plane, label, b) & one)
+}
+
+// The plane without bit k: those behind it move down by one.
+pub fn without_bit(plane: u64, k: usize) -> u64
+    requires { ⌜ k < 64 ⌝ }
+    ensures { λ r. ⌜ Bits (λ i. bit (behindGap k i) plane) r ⌝ }
+{
+    let one: u64 = 1 << k;
+    let low = one - 1;
+    (plane & low) | ((plane >> 1) & !low)
+}

@@ -1,0 +1,85 @@
+-- Laws of the planes of a slot, changed one by one, and of a message whose words were stored.
+use Prim.Native.Nat.{ℕ, _+_, _*_, _/_, _%_, _<_, _≤_}
+use mathlib.Core.Path.{_≡_, refl, sym, ap, _∙_}
+use mathlib.Core.Logic.{_≢_, dite}
+use mathlib.Core.List.{List}
+use native.Mathlib.Decide.{ℕ-discrete}
+use native.Mathlib.Omega.{arith}
+use borrow.Author.Tests.{eq-eqb, ne-eqb}
+use lib.ListN.{length, getD, drop, set, length-drop}
+use lib.Seq.{getD-drop, drop-set-add, drop-set-lt, getD-set-same, getD-set-other}
+use Rattle.planes.proofs.Labels.{label-is}
+use Rattle.machine.specs.State.{Message}
+use Rattle.table.specs.Table.{planeIn, ringIn, messageIn}
+use Rattle.table.specs.Words.{Planed, WithBit, WithoutBit, With, Closed, Without}
+use Rattle.table.proofs.Message.{message-same}
+
+-- ---- one plane after another
+
+module _ (R : ℕ → ℕ → ℕ → Type 0) (w : List ℕ) where
+  pub planed-none : Planed 0 R w w
+  planed-none = record { fields = λ k h. refl; changed = λ b h. absurd (omega arith); kept = λ b h l. refl; ring = refl }
+
+  pub planed-more : (n y : ℕ) (u v : List ℕ) → n < 4 → length u ≡ 84 → Planed n R w u → v ≡ set u (16 + n) y → (planeIn u n ≡ planeIn w n → R n (planeIn w n) y) → Planed (n + 1) R w v
+  planed-more n y u v small long p e r =
+      let here : planeIn (set u (16 + n) y) n ≡ y = rw (drop-set-add) (getD-set-same (drop 16 u) n y 0 (simp length-drop (omega arith))) in
+      let other : (b : ℕ) → b ≢ n → planeIn (set u (16 + n) y) b ≡ planeIn u b = λ b ne. rw (drop-set-add) (getD-set-other (drop 16 u) n b y 0 ne) in
+      rw e
+      (record {
+        fields = λ k h. getD-set-other u (16 + n) k y 0 (λ q. omega arith) ∙ p .fields k h;
+        changed = λ b h.
+            dite (ℕ-discrete b n)
+            (λ q. rw (q, here) (r (p .kept n (omega arith) small)))
+            (λ ne. rw (other b ne) (p .changed b (omega (arith, ne))));
+        kept = λ b h l. other b (λ q. omega arith) ∙ p .kept b (omega arith) l;
+        ring = drop-set-lt 20 u (16 + n) y (omega arith) ∙ p .ring;
+      })
+
+-- ---- a message more
+
+module _ (n at : ℕ) (m : Message) (w w₁ u : List ℕ) (long : length w ≡ 84) (room : n < 64) (label : m .label ≤ 15) (sender : m .sender < 256) (value : m .value < 4294967296)
+    (placed : at ≡ (getD w 13 0 % 64 + n) % 64) (stored : w₁ ≡ set w (20 + at) (m .sender * 4294967296 + m .value)) (p : Planed 4 (WithBit n (m .label)) w₁ u) where
+  abbrev word : ℕ
+  word = m .sender * 4294967296 + m .value
+
+  field : (k : ℕ) → k < 16 → getD u k 0 ≡ getD w k 0
+  field k h = p .fields k h ∙ ap (λ (v : List ℕ). getD v k 0) stored ∙ getD-set-other w (20 + at) k word 0 (λ e. omega arith)
+
+  plane : (b : ℕ) → b < 4 → planeIn w₁ b ≡ planeIn w b
+  plane b h =
+      ap (λ (v : List ℕ). planeIn v b) stored ∙ getD-drop 16 (set w (20 + at) word) b 0 ∙ getD-set-other w (20 + at) (16 + b) word 0 (λ e. omega arith)
+      ∙ sym (getD-drop 16 w b 0)
+
+  ring-set : drop 20 u ≡ set (drop 20 w) at word
+  ring-set = p .ring ∙ ap (drop 20) stored ∙ drop-set-add 20 w at word
+
+  old : (i : ℕ) → i < n → ringIn (getD u 13 0) u i ≡ ringIn (getD w 13 0) w i
+  old i h =
+      rw (field 13 (omega arith), ring-set) (getD-set-other (drop 20 w) at ((getD w 13 0 + i) % 64) word 0 (λ e. omega arith))
+
+  new : ringIn (getD u 13 0) u n ≡ word
+  new =
+      let here : (getD w 13 0 + n) % 64 ≡ at = omega arith in
+      rw (field 13 (omega arith), ring-set, here) (getD-set-same (drop 20 w) at word 0 (simp length-drop (omega arith)))
+
+  pub message-with : With n m w u
+  unfolding messageIn
+  message-with =
+      let s : word / 4294967296 % 256 ≡ m .sender = omega arith in
+      let v : word % 4294967296 ≡ m .value = omega arith in
+      record {
+        fields = λ k h. field k (omega arith);
+        before = λ i h. message-same w u i i (λ b l. p .changed b l i (omega arith) ∙ rw (ne-eqb i n (λ e. omega arith), plane b l)) (old i h);
+        last = rw (label-is 4 (planeIn u) n (m .label) (omega arith) (λ b l. p .changed b l n room ∙ rw (eq-eqb n n refl)), new, s, v);
+      }
+
+-- ---- a message less
+
+pub message-without : (i n : ℕ) (w w₁ u : List ℕ) → n ≤ 64 → Closed i n w w₁ → Planed 4 (WithoutBit i) w₁ u → Without i n w u
+message-without i n w w₁ u many c p =
+    let start : getD u 13 0 ≡ getD w₁ 13 0 = p .fields 13 (omega arith) in
+    record {
+      fields = λ k h. p .fields k (omega arith) ∙ c .fields k h;
+      others = λ j h.
+          message-same w u _ j (λ b l. p .changed b l j (omega arith) ∙ rw (c .planes b l)) (rw (start, p .ring) (c .mail j h));
+    }
