@@ -60,38 +60,32 @@ was-decoded program pc i e =
 
 -- pc: the place that was read
 module _ (program : List ℕ) (s : ℕ) (ss : List Slot) (live : hasLiveTask (slotAt ss s) ≡ true) {pc : ℕ} (place : pc ≡ taskAt ss s .pc) where
-  -- with place N it gets kind 3
-  pub act-ends : pc ≡ count program → set ss s (slotWithKind 3 (slotAt ss s)) ≡ applied s (outcome flows join program s (taskAt ss s)) ss
-  unfolding outcome
-  act-ends e = kind-here ss s (live-here ss s live) 3 refl ∙ rw (eq-eqb (taskAt ss s .pc) (count program) (sym place ∙ e))
+  module _ (ok : Valid (record { program = program; turnSlot = s; slots = ss })) where
+    own : TaskFacts (count program) s (taskAt ss s)
+    own = rw (live-here ss s live) at (slot-facts (count program) s (slotAt ss s) (ok .tasks s))
 
-  module _ (before : pc ≢ count program) where
-    not-ended : eqb (taskAt ss s .pc) (count program) ≡ false
-    not-ended = ne-eqb (taskAt ss s .pc) (count program) (λ e. before (place ∙ e))
+    -- with place N it gets kind 3: no place is above
+    pub act-ends : count program ≤ pc → set ss s (slotWithKind 3 (slotAt ss s)) ≡ applied s (outcome flows join program s (taskAt ss s)) ss
+    unfolding outcome
+    act-ends h =
+        let last : taskAt ss s .pc ≡ count program = omega (arith, own .pc) in
+        kind-here ss s (live-here ss s live) 3 refl ∙ rw (eq-eqb (taskAt ss s .pc) (count program) last)
 
-    -- else it carries out one instruction
-    pub act-executes : (i : Instruction) → instructionAt program pc ≡ Legal i → executed i s ss ≡ applied s (outcome flows join program s (taskAt ss s)) ss
-    unfolding outcome executed
-    act-executes i is = rw (not-ended, ← place, is)
+    -- a valid state is ready for an instruction
+    pub valid-ready : pc < count program → Ready s ss
+    valid-ready before =
+        record {
+          goes = record { here = live-here ss s live; place = omega (arith, own .pc, size-facts (length program) (ok .size) .2) };
+          spare = own .spare;
+          room = valid-room ok;
+        }
 
-    module _ (ok : Valid (record { program = program; turnSlot = s; slots = ss })) where
-      own : TaskFacts (count program) s (taskAt ss s)
-      own = rw (live-here ss s live) at (slot-facts (count program) s (slotAt ss s) (ok .tasks s))
+  -- else it carries out one instruction
+  pub act-executes : pc < count program → (i : Instruction) → instructionAt program pc ≡ Legal i → executed i s ss ≡ applied s (outcome flows join program s (taskAt ss s)) ss
+  unfolding outcome executed
+  act-executes before i is = rw (ne-eqb (taskAt ss s .pc) (count program) (λ e. omega arith), ← place, is)
 
-      -- there is one
-      pub place-within : pc < count program
-      place-within = omega (arith, own .pc, before)
-
-      -- and a valid state is ready for it
-      pub valid-ready : Ready s ss
-      valid-ready =
-          record {
-            goes = record { here = live-here ss s live; place = omega (arith, own .pc, size-facts (length program) (ok .size) .2) };
-            spare = own .spare;
-            room = valid-room ok;
-          }
-
--- ---- one turn
+-- ---- live and idle slots
 
 -- k: the kind that was read; a task is live where it is 1
 module _ (ss : List Slot) (s : ℕ) {k : ℕ} (kind : k ≡ taskAt ss s .kind) where

@@ -15,7 +15,7 @@ ghost use Rattle.machine.specs.Inner.{bottomOf, topBehind, topOf, Within};
 ghost use Rattle.table.specs.Table.{slotsIn, stateIn};
 ghost use Rattle.table.specs.Change.{taskAt, messageAt, change, withoutMessage};
 ghost use Rattle.turn.specs.Effects.{executed, accepts, RoomFor, GoesOn, Ready, WasDecoded, isGiven};
-ghost use Rattle.turn.specs.Answer.{runTold, NextLive};
+ghost use Rattle.turn.specs.Answer.{runTold};
 use instruction::Instruction;
 
 // ---- registers and place
@@ -244,17 +244,17 @@ fn execute(table: &mut table::Table, slot: u8, i: Instruction)
     }
 }
 
-// What a live task does with its turn: with place N it gets kind 3, else it carries out one instruction.
+// What a live task does with its turn: with place N it gets kind 3, else it carries out one instruction. No place is above N.
 fn act(table: &mut table::Table, program: &[u8], slot: u8)
     requires { ⌜ Valid (stateIn (now program) slot (now table)) × (hasLiveTask (slotAt (slotsIn (now table)) slot) ≡ true) ⌝ }
     ensures { λ _. ⌜ slotsIn (now (table .exit))
         ≡ applied slot (outcome flows join (now (program .entry)) slot (taskAt (slotsIn (now (table .entry))) slot)) (slotsIn (now (table .entry))) ⌝ }
 {
     let pc = table::pc(table, slot as usize) as usize;
-    if pc == program.len() / 4 {
-        table::set_kind(table, slot as usize, 3);
-    } else {
+    if pc < program.len() / 4 {
         execute(table, slot, instruction::legal_at(program, pc));
+    } else {
+        table::set_kind(table, slot as usize, 3);
     }
 }
 
@@ -328,24 +328,8 @@ fn round_end(slot: u8, left: u64) -> u8
     }
 }
 
-// The first slot from `first` on, and ahead of `stop`, with a live task; where there is none, `stop`, or `first` where that is behind it.
-// It has a loop of its own, which is short.
-fn next_live(table: &table::Table, first: usize, stop: usize) -> usize
-    requires { ⌜ stop ≤ 16 ⌝ }
-    ensures { λ r. ⌜ NextLive first stop (slotsIn (now (table .entry))) r ⌝ }
-{
-    let mut slot = first;
-    while slot < stop {
-        if table::kind(table, slot) == 1 {
-            return slot;
-        }
-        slot += 1;
-    }
-    slot
-}
-
 // The turns of the slots from `first` up to `end`, each followed by the next: how many met a live task. The slots below `bottom` and
-// from `top` on are unused and stay so, and are passed over. Counted are the others that meet none, which are fewer where it matters.
+// from `top` on are unused and stay so, and are passed over. Counted are the others without one, so that a live task's turn counts nothing.
 fn round(table: &mut table::Table, program: &[u8], first: u8, end: u8, bottom: u8, top: u8) -> u64
     requires { ⌜ Valid (stateIn (now program) first (now table)) × (first ≤ end) × (end ≤ 16) × Within bottom top (slotsIn (now table)) ⌝ }
     ensures { λ r. ⌜ (r ≡ busy (end - first) (stateIn (now (program .entry)) first (now (table .entry))))
@@ -361,9 +345,8 @@ fn round(table: &mut table::Table, program: &[u8], first: u8, end: u8, bottom: u
             act(table, program, slot as u8);
             slot += 1;
         } else {
-            let next = next_live(table, slot + 1, stop);
-            idle += next - slot;
-            slot = next;
+            idle += 1;
+            slot += 1;
         }
     }
     (slot - from - idle) as u64

@@ -3,37 +3,29 @@ use mathlib.Core.Path.{_∙_}
 use native.Mathlib.Omega.{arith}
 use denote.Ref.{now}
 use Rattle.table.specs.Table.{slotsIn}
-use Rattle.turn.proofs.Steps.{live-here, was-decoded, act-ends, act-executes, place-within, valid-ready}
+use Rattle.turn.proofs.Steps.{live-here, was-decoded, act-ends, act-executes, valid-ready}
 use Rattle.turn.proofs.act.Statement.{statement}
 use Rattle.turn.proofs.act.Tie as tie
 
-legal-at-requires : tie.Need-legal-at-requires
-legal-at-requires c κs =
-    let b = c .before .before .before .before .before in
-    let ss = slotsIn (now (b .args .table)) in
-    (b .pre .0 .legal, place-within _ _ ss (b .pre .1) (c .before .before .pc .ensures) (c .before .if1 .left) (b .pre .0))
-
+-- the place that was read is ahead of N
 execute-requires : tie.Need-execute-requires
 execute-requires c κs =
     let b = c .before .before .before .before .before .before in
-    let ss = slotsIn (now (b .args .table)) in (
-      valid-ready _ _ ss (b .pre .1) (c .before .before .before .pc .ensures) (c .before .before .if1 .left) (b .pre .0),
-      was-decoded _ _ _ (c .legal-at .ensures),
-    )
+    let ss = slotsIn (now (b .args .table)) in
+    (valid-ready _ _ ss (b .pre .1) (c .before .before .before .pc .ensures) (b .pre .0) (c .before .before .if1 .taken), was-decoded _ _ _ (c .legal-at .ensures))
 
 returns : tie.Need-returns
 returns c =
-    let b = c .before .before .before .before .before .before in
-    let ss = slotsIn (now (b .args .table)) in
-    c .set-kind .ensures ∙ act-ends _ _ ss (b .pre .1) (c .before .before .before .pc .ensures) (c .before .before .if1 .taken)
-
-returns-2 : tie.Need-returns-2
-returns-2 c =
     let b = c .before .before .before .before .before .before .before in
     let ss = slotsIn (now (b .args .table)) in
     let pc = c .before .before .before .before .pc .ensures in
-    let before = c .before .before .before .if1 .left in
-    c .execute .ensures ∙ act-executes _ _ ss (b .pre .1) pc before _ (c .before .legal-at .ensures)
+    c .execute .ensures ∙ act-executes _ _ ss (b .pre .1) pc (c .before .before .before .if1 .taken) _ (c .before .legal-at .ensures)
+
+returns-2 : tie.Need-returns-2
+returns-2 c =
+    let b = c .before .before .before .before .before .before in
+    let ss = slotsIn (now (b .args .table)) in
+    c .set-kind .ensures ∙ act-ends _ _ ss (b .pre .1) (c .before .before .before .pc .ensures) (b .pre .0) (omega arith)
 
 pub act-spec : {M : Type 1} → statement M
 act-spec =
@@ -41,8 +33,8 @@ act-spec =
     (tie.spec
     (λ c κs. let b = c .before .before in live-here (slotsIn (now (b .args .table))) (b .args .slot) (b .pre .1))
     (λ c. omega arith)
-    (λ c κs. let b = c .before .before .before .before .before in live-here (slotsIn (now (b .args .table))) (b .args .slot) (b .pre .1))
-    legal-at-requires
+    (λ c κs. (c .before .before .before .before .before .pre .0 .legal, c .before .if1 .taken))
     execute-requires
+    (λ c κs. let b = c .before .before .before .before .before in live-here (slotsIn (now (b .args .table))) (b .args .slot) (b .pre .1))
     returns
     returns-2)

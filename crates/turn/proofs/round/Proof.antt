@@ -1,10 +1,10 @@
 -- `turn::round` meets its contract: at each slot the table holds the state after the turns of the slots before it.
-use Prim.Native.Nat.{ℕ, _+_, _-_, _%_, _^_, _≤_, _<_, min}
+use Prim.Native.Nat.{ℕ, _+_, _-_, _%_, _≤_, _<_, min}
 use mathlib.Core.Path.{_≡_}
 use mathlib.Core.Logic.{dite}
 use mathlib.Core.List.{List}
 use mathlib.Core.Bool.{true, false}
-use native.Mathlib.Decide.{ℕ-discrete, decLt}
+use native.Mathlib.Decide.{decLt}
 use native.Mathlib.Omega.{arith}
 use borrow.Author.Tests.{leb-true}
 use denote.Ref.{now}
@@ -24,18 +24,12 @@ Inv-loop table₀ program first end bottom top stop from idle₀ slot₀ table i
 abbrev μ-loop : tie.MeasureT-loop
 μ-loop table₀ program first end bottom top stop from idle₀ slot₀ table idle slot = stop - slot
 
--- a turn more that met a live task, and turns more that met none
+-- a turn more that met a live task, or none
 one-met : (from idle slot : ℕ) → from + idle ≤ slot → slot - from - idle + 1 ≡ slot + 1 - from - idle
 one-met from idle slot h = omega arith
 
-none-met : (from idle slot to : ℕ) → from + idle ≤ slot → slot ≤ to → (slot - from - idle ≡ to - from - (idle + (to - slot))) × (from + (idle + (to - slot)) ≤ to)
-none-met from idle slot to h l = (omega arith, omega arith)
-
-idle-fits : (from idle slot to : ℕ) → from + idle ≤ slot → slot ≤ to → to ≤ 16 → idle + (to - slot) < 2 ^ 64
-idle-fits from idle slot to h l few = omega arith
-
-nearer : (slot to stop : ℕ) → slot < stop → slot < to → stop - to < stop - slot
-nearer slot to stop h l = omega arith
+none-met : (from idle slot : ℕ) → from + idle ≤ slot → slot - from - idle ≡ slot + 1 - from - (idle + 1)
+none-met from idle slot h = omega arith
 
 -- what a round begins with
 abbrev start : tie.Start Inv-loop μ-loop → State
@@ -94,38 +88,19 @@ loop-again c =
     further l (h .slot + 1) (h .idle) (omega (arith, at-hand l .0)) (omega arith) (omega (arith, h .inv .2))
     (rw more (ran-live (at-hand l .1) (live (c .before .before)) (c .act .ensures))) (one-met (l .before .before .max .result) (h .idle) (h .slot) (h .inv .2))
 
--- the next slot is not behind the last
-next-within : (c : tie.After-next-live Inv-loop μ-loop) → c .next-live .result ≤ c .before .before .before .before .before .before .before .before .before .before .args .end
-next-within c =
-    let l = c .before .before .before .before .before in
-    omega (arith, c .next-live .ensures .high, at-hand l .0, l .before .before .before .min .ensures)
-
--- the turns of slots without one, up to the next that has one
+-- the turn of a slot without one
 loop-again-2 : tie.Need-loop-again-2 Inv-loop μ-loop
 loop-again-2 c =
-    let l = c .before .before .before .before .before in
+    let l = c .before .before .before in
     let h = l .before .loop in
     let b = l .before .before .before .before .before in
     let ss = slotsIn (h .table) in
-    let r = c .next-live .result in
-    let next = c .next-live .ensures in
     let at = at-hand l in
-    let none : (j : ℕ) → h .slot ≤ j → j < h .slot + (r - h .slot) → hasLiveTask (slotAt ss j) ≡ false
-    = λ j m g. dite (ℕ-discrete j (h .slot)) (λ e. rw e (kind-idle ss (h .slot) (c .before .before .before .kind .ensures) (c .before .before .if1 .left)))
-    (λ ne. next .idle j (omega arith) (omega (arith, next .low))) in
-    let past = ran-past (at .1) (r - h .slot) (omega (arith, at .0, b .pre .2)) (omega (arith, next .low, b .pre .2)) none in
-    let turns : h .slot - b .args .first + (r - h .slot) ≡ r - b .args .first = omega (arith, h .inv .0, next .low) in
-    let slot : h .slot + (r - h .slot) ≡ r = omega (arith, next .low) in
-    let met = none-met (l .before .before .max .result) (h .idle) (h .slot) r (h .inv .2) (omega (arith, next .low)) in
-    further l r (h .idle + (r - h .slot)) (next-within c) (omega (arith, next .low)) (met .1) (rw slot at (rw turns at past)) (met .0)
-
-add-idle : tie.Need-add-idle Inv-loop μ-loop
-add-idle c =
-    let l = c .before .before .before .before .before in
-    let h = l .before .loop in
-    let fits = idle-fits (l .before .before .max .result) (h .idle) (h .slot) (c .next-live .result) (h .inv .2) (omega (arith, c .next-live .ensures .low))
-    (omega (arith, next-within c, l .before .before .before .before .before .pre .2)) in
-    record { fits = fits }
+    let idle = kind-idle ss (h .slot) (c .before .kind .ensures) (c .if1 .left) in
+    let past = ran-past (at .1) 1 (omega (arith, at .0, b .pre .2)) (omega (arith, at .0, b .pre .2))
+    (λ j m g. let is : j ≡ h .slot = omega arith in rw is idle) in
+    let turns : h .slot - b .args .first + 1 ≡ h .slot + 1 - b .args .first = omega (arith, h .inv .0) in
+    further l (h .slot + 1) (h .idle + 1) (omega (arith, at .0)) (omega arith) (omega (arith, h .inv .2)) (rw turns at past) (none-met (l .before .before .max .result) (h .idle) (h .slot) (h .inv .2))
 
 -- the last slots have none
 at-end : (c : tie.After-loop Inv-loop μ-loop) → let b = c .before .before .before .before .before in let h = c .before .loop in
@@ -167,11 +142,9 @@ round-spec =
     (λ c. omega (arith, at-hand (c .before .before .before .before .before) .0, c .before .before .before .before .before .before .before .before .before .before .pre .2))
     (λ c. omega arith)
     loop-again
-    (λ c. omega (arith, at-hand (c .before .before .before .before) .0, c .before .before .before .before .before .before .before .before .before .pre .2))
-    (λ c κs. omega (arith, c .before .before .before .before .before .before .before .min .ensures, c .before .before .before .before .before .before .before .before .before .pre .2))
-    (λ c. omega (arith, c .next-live .ensures .low))
-    add-idle
-    (λ c. nearer _ _ _ (omega arith) (omega (arith, c .next-live .ensures .low)))
+    (λ c. omega (arith, c .before .before .before .before .loop .inv .2, at-hand (c .before .before .before) .0, c .before .before .before .before .before .before .before .before .pre .2))
+    (λ c. omega (arith, at-hand (c .before .before .before) .0, c .before .before .before .before .before .before .before .before .pre .2))
+    (λ c. omega arith)
     loop-again-2
     (λ c. omega (arith, c .before .loop .inv .1))
     (λ c. omega (arith, c .before .loop .inv .2))
