@@ -1,6 +1,6 @@
 -- Bit i of what the operations on numbers give: a law for each operation, and numbers known by their bits.
 use Prim.Native.Nat.{ℕ, zero, suc, _+_, _*_, _-_, _/_, _%_, _^_, _<_, min, max}
-use mathlib.Core.Path.{_≡_, refl, sym, ap, _∙_}
+use mathlib.Core.Path.{_≡_, refl, sym, _∙_}
 use mathlib.Core.Bool.{cond}
 use native.Mathlib.Nat.{pow-suc, pow-succ', div-div-eq-div-mul, not-suc-le-zero, mod-lt}
 use native.Mathlib.Omega.{arith}

@@ -2,7 +2,7 @@
 use Prim.Native.Nat.{ℕ, zero, suc, _+_, _*_, _/_, _%_, _^_, _<_, _≤_}
 use mathlib.Core.Path.{_≡_, sym, ap, _∙_}
 use mathlib.Core.Logic.{dite}
-use mathlib.Core.Bool.{Bool, true, cond, _&&_}
+use mathlib.Core.Bool.{Bool, true}
 use native.Mathlib.Decide.{decLt}
 use native.Mathlib.Nat.{pow-suc, not-suc-le-zero, div-eq-of-lt}
 use native.Mathlib.Omega.{arith}
@@ -15,7 +15,7 @@ use Rattle.label.specs.Label.{bit, flows}
 use Rattle.label.proofs.Bits.{bit-first, bit-half, bits-ext, bit-lt}
 use Rattle.planes.specs.Planes.{labelFrom}
 
-pub label-lt : (n : ℕ) (plane : ℕ → ℕ) (i : ℕ) → labelFrom n plane i < 2 ^ n
+label-lt : (n : ℕ) (plane : ℕ → ℕ) (i : ℕ) → labelFrom n plane i < 2 ^ n
 unfolding labelFrom
 label-lt zero plane i = omega arith
 label-lt (suc n) plane i =

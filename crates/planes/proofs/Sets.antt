@@ -1,5 +1,5 @@
 -- Laws of sets: a word whose bits are right is the set, how many are in it, and which is the first.
-use Prim.Native.Nat.{ℕ, zero, suc, _+_, _-_, _*_, _/_, _%_, _^_, _<_, _≤_, min}
+use Prim.Native.Nat.{ℕ, zero, suc, _+_, _-_, _/_, _%_, _^_, _<_, _≤_, min}
 use mathlib.Core.Path.{_≡_, refl, sym, ap, ap₂, _∙_}
 use mathlib.Core.Logic.{_≢_, dite}
 use mathlib.Core.Bool.{Bool, cond}
@@ -105,7 +105,7 @@ unfolding ones
 ones-zero = refl
 
 -- a word without ones
-pub ones-none : (n x : ℕ) → x < 2 ^ n → ones x ≡ 0 → x ≡ 0
+ones-none : (n x : ℕ) → x < 2 ^ n → ones x ≡ 0 → x ≡ 0
 ones-none zero x h e = omega arith
 ones-none (suc n) x h e =
     let k = rw pow-suc at h in

@@ -1,6 +1,6 @@
 -- Laws of a test made plane by plane: of a word whose bits are 1 where some plane so far has failed.
 use Prim.Native.Nat.{ℕ, _+_, _-_, _^_, _<_, max}
-use mathlib.Core.Path.{_≡_, refl, ap, _∙_}
+use mathlib.Core.Path.{_≡_, refl, _∙_}
 use mathlib.Core.Bool.{Bool, true, false, cond, _&&_}
 use native.Mathlib.Numerals.{add-one}
 use lib.Bits.{bitOr}

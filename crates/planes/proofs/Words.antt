@@ -1,6 +1,6 @@
 -- Laws of the bits that each operation on a word of 64 gives.
 use Prim.Native.Nat.{ℕ, _+_, _-_, _*_, _/_, _%_, _^_, _<_, _≤_, min}
-use mathlib.Core.Path.{_≡_, refl, sym, ap, _∙_}
+use mathlib.Core.Path.{_≡_, refl, ap, _∙_}
 use mathlib.Core.Bool.{true, cond}
 use native.Mathlib.Nat.{one-mul}
 use native.Mathlib.Omega.{arith}

@@ -8,7 +8,7 @@ use native.Mathlib.Omega.{arith}
 use borrow.Author.Tests.{lt-ltb, le-ltb}
 use lib.Bits.{bitAnd, and-mask}
 use lib.Count.{trailingZeros}
-use lib.ListN.{length, getD, set, take}
+use lib.ListN.{length, getD, set}
 use Rattle.wire.specs.Lists.{tabulate}
 use Rattle.wire.specs.Inner.{firstIndex, without}
 use Rattle.wire.proofs.Tabulate.{length-tabulate, take-tabulate, tabulate-append, tabulate-without}
@@ -21,7 +21,7 @@ use Rattle.table.specs.Words.{SlotChanged, SlotStored, With, Without}
 use Rattle.table.proofs.Window.{window-length}
 use Rattle.table.proofs.Task.{count-stored, fields-kept}
 use Rattle.table.proofs.Change.{mail-used}
-use Rattle.table.proofs.Slots.{used-slot, mailbox-is, mailbox-read, message-fits, change-slots}
+use Rattle.table.proofs.Slots.{used-slot, mailbox-is, mailbox-read, change-slots}
 
 -- ---- one slot's words
 

@@ -10,8 +10,7 @@ use borrow.Author.Tests.{lt-ltb, le-ltb}
 use lib.Dec.{ltb}
 use lib.ListN.{length, getD, drop, set, length-drop}
 use lib.Seq.{getD-drop, drop-set-add, drop-set-lt, getD-set-same, getD-set-other}
-use Rattle.wire.proofs.Lists.{split}
-use Rattle.table.specs.Table.{planeIn, ringIn}
+use Rattle.table.specs.Table.{ringIn}
 use Rattle.table.specs.Words.{Moved, down, up, Closed}
 
 pub moved-none : (start : ℕ) (f : ℕ → ℕ) (w : List ℕ) → ((j : ℕ) → j < 64 → f j ≡ j) → Moved start f w w

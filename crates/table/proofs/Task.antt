@@ -21,10 +21,10 @@ by-fields P f w long =
     rw e at (f (λ i. getD w i 0) (drop 16 w))
 
 -- a byte is all of its word, and so are four
-pub low-byte : (x : ℕ) → x < 256 → x % 256 ≡ x
+low-byte : (x : ℕ) → x < 256 → x % 256 ≡ x
 low-byte x h = omega arith
 
-pub low-four : (x : ℕ) → x < 4294967296 → x % 4294967296 ≡ x
+low-four : (x : ℕ) → x < 4294967296 → x % 4294967296 ≡ x
 low-four x h = omega arith
 
 module _ (x : ℕ) (w : List ℕ) (long : length w ≡ 84) where

@@ -1,7 +1,6 @@
 -- Laws of the words of a slot: where they stand in the table, and what a store does to them.
 use Prim.Native.Nat.{ℕ, _+_, _*_, _<_}
 use mathlib.Core.Path.{_≡_, refl, sym, ap, _∙_}
-use mathlib.Core.Logic.{_≢_}
 use mathlib.Core.List.{List}
 use borrow.Author.Fill.{fill-more}
 use native.Mathlib.Omega.{arith}

@@ -7,7 +7,7 @@ use Rattle.wire.specs.Inner.{without}
 use Rattle.machine.specs.State.{Message, Task, Slot, unused, used, slotAt, withKind, withMailbox}
 use Rattle.table.specs.Table.{held}
 
--- ---- reading: what is not there reads as 0
+-- ---- reading
 
 abbrev pub noMessage : Message
 noMessage = record { label = 0; sender = 0; value = 0 }

@@ -139,16 +139,6 @@ module _ {start : State} {program : List ℕ} {n s : ℕ} {ss : List Slot} {met 
       → Ran start program (n + 1) ((s + 1) % 16) ss′ (met + 1)
   ran-live live {ss′} e = record { state = turns-next ss′ (e ∙ turn-live program s ss live); met-is = sym (busy-next ∙ rw live) }
 
-  -- k turns of slots without a live task are passed over
-  pub ran-past : (k : ℕ) → s ≤ 15 → s + k ≤ 16 → ((j : ℕ) → s ≤ j → j < s + k → hasLiveTask (slotAt ss j) ≡ false) → Ran start program (n + k) ((s + k) % 16) ss met
-  ran-past k low fits none =
-      let at : State = record { program = program; turnSlot = s; slots = ss } in
-      let past = turns-idle at low k fits none in
-      record {
-        state = past .0 ∙ ap (turns k) (ran .state) ∙ sym (turns-add n k start);
-        met-is = ran .met-is ∙ sym (busy-add n k start ∙ ap (λ (state : State). busy n start + busy k state) (sym (ran .state)) ∙ rw (past .1) (omega arith));
-      }
-
   -- k turns more, told by the state that they begin with
   pub ran-round : (k s′ : ℕ) (ss′ : List Slot) (more : ℕ) → let at : State = record { program = program; turnSlot = s; slots = ss } in
       more ≡ busy k at → record { program = program; turnSlot = s′; slots = ss′ } ≡ turns k at → Ran start program (n + k) s′ ss′ (met + more)
@@ -158,6 +148,13 @@ module _ {start : State} {program : List ℕ} {n s : ℕ} {ss : List Slot} {met 
         ∙ ap (λ (m : ℕ). busy n start + m) (counted ∙ ap (busy k) (ran .state))
         ∙ sym (busy-add n k start);
   }
+
+  -- k turns of slots without a live task are passed over
+  pub ran-past : (k : ℕ) → s ≤ 15 → s + k ≤ 16 → ((j : ℕ) → s ≤ j → j < s + k → hasLiveTask (slotAt ss j) ≡ false) → Ran start program (n + k) ((s + k) % 16) ss met
+  ran-past k low fits none =
+      let past = turns-idle (record { program = program; turnSlot = s; slots = ss }) low k fits none in
+      let same : met + 0 ≡ met = omega arith in
+      rw same at (ran-round k ((s + k) % 16) ss 0 (sym (past .1)) (past .0))
 
   pub ran-valid : Valid start → Valid (record { program = program; turnSlot = s; slots = ss })
   ran-valid ok = subst Valid (sym (ran .state)) (turns-valid n start ok)

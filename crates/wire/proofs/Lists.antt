@@ -1,7 +1,7 @@
 -- Laws of lists: an element changed, a front or all but one element taken, tests and filters.
 use Prim.Native.Nat.{ℕ, zero, suc, _+_, _≤_, _<_}
-use mathlib.Core.Path.{_≡_, refl, sym, ap, _∙_}
-use mathlib.Core.Bool.{Bool, true, false, cond, _&&_}
+use mathlib.Core.Path.{_≡_, refl, sym, ap}
+use mathlib.Core.Bool.{Bool, true, false, _&&_}
 use mathlib.Core.List.{List, [], _∷_, _++_, map, head?}
 use mathlib.Core.Option.{none, some}
 use native.Mathlib.Decide.{decLe}
@@ -9,7 +9,7 @@ use native.Mathlib.Nat.{not-suc-le-zero}
 use native.Mathlib.Numerals.{add-one}
 use native.Mathlib.Omega.{arith}
 use lib.ListN.{length, getD, set, take, drop, drop-of-length-le}
-use lib.Seq.{drop-cons, take-suc-set}
+use lib.Seq.{drop-cons}
 use Rattle.wire.specs.Lists.{each, Every, all, keep, dropFirst, Bytes}
 use Rattle.wire.specs.Inner.{without, firstIndex}
 
@@ -89,14 +89,6 @@ module _ {A : Type 0} where
   map-absorb f g h [] = refl
   map-absorb f g h (x ∷ xs) = rw (h x, map-absorb f g h xs)
 
-  -- two lists of which f and g make the same, element by element
-  pub map-alike : {B C : Type 0} (f : A → C) (g : B → C) (d : A) (e : B) (xs : List A) (ys : List B) → length xs ≡ length ys
-      → ((i : ℕ) → i < length xs → f (getD xs i d) ≡ g (getD ys i e)) → map f xs ≡ map g ys
-  map-alike f g d e [] [] n h = refl
-  map-alike f g d e [] (y ∷ ys) n h = absurd (omega arith)
-  map-alike f g d e (x ∷ xs) [] n h = absurd (omega arith)
-  map-alike f g d e (x ∷ xs) (y ∷ ys) n h = rw (h 0 (omega arith), map-alike f g d e xs ys (omega arith) (λ i l. h (suc i) (omega arith)))
-
   pub length-nil : (l : List A) → length l ≡ 0 → l ≡ []
   length-nil [] e = refl
   length-nil (x ∷ xs) e = absurd (omega arith)
@@ -105,12 +97,6 @@ module _ {A : Type 0} where
   take-length-take zero l = refl
   take-length-take (suc n) [] = refl
   take-length-take (suc n) (x ∷ l) = rw (← take-length-take n l)
-
-  -- one more, stored behind them
-  pub take-append : (c n : ℕ) (l : List A) (x : A) → n ≡ length (take c l) → n < length l → take (n + 1) (set l n x) ≡ take c l ++ (x ∷ [])
-  take-append c n l x count h =
-      let same : take n l ≡ take c l = rw count (sym (take-length-take c l)) in
-      rw (add-one, take-suc-set l n x h, same)
 
 -- ---- every element
 
@@ -315,30 +301,3 @@ module _ {A : Type 0} (p : A → Bool) where
 
   pub first-past : (xs : List A) (i : ℕ) → length xs ≤ i → i ≤ firstIndex p xs → i ≡ firstIndex p xs
   first-past xs i h l = omega (arith, first-le xs)
-
-  -- a loop that counts the elements that pass: the one at index i counted, and all of them
-  pub keep-next : (xs : List A) (i n : ℕ) (d : A) → i < length xs → length (keep p xs) ≡ n + length (keep p (drop i xs))
-      → length (keep p xs) ≡ n + cond (p (getD xs i d)) 1 0 + length (keep p (drop (i + 1) xs))
-  keep-next xs i n d h c =
-      let x = getD xs i d in
-      c ∙ rw (drop-cons xs i d h, add-one i) (split (p x) (λ e. rw e (omega arith)) (λ e. rw e (omega arith)))
-
-  pub keep-done : (xs : List A) (i n : ℕ) → length xs ≤ i → length (keep p xs) ≡ n + length (keep p (drop i xs)) → n ≡ length (keep p xs)
-  keep-done xs i n h c = let none : length (keep p (drop i xs)) ≡ 0 = rw (drop-of-length-le xs {i = i} h) in omega arith
-
-  -- of what f makes of the elements
-  first-map : {B : Type 0} (f : B → A) (xs : List B) → firstIndex p (map f xs) ≡ firstIndex (λ x. p (f x)) xs
-  first-map f [] = refl
-  first-map f (x ∷ xs) = rw (first-map f xs)
-
-  length-keep-map : {B : Type 0} (f : B → A) (xs : List B) → length (keep p (map f xs)) ≡ length (keep (λ x. p (f x)) xs)
-  length-keep-map f [] = refl
-  length-keep-map f (x ∷ xs) = let ih = length-keep-map f xs in split (p (f x)) (λ e. rw (e, ih)) (λ e. rw (e, ih))
-
-  -- of two lists that are alike to the test
-  module _ {B C : Type 0} (f : B → A) (g : C → A) (xs : List B) (ys : List C) (same : map f xs ≡ map g ys) where
-    pub first-alike : firstIndex (λ x. p (f x)) xs ≡ firstIndex (λ y. p (g y)) ys
-    first-alike = sym (first-map f xs) ∙ ap (firstIndex p) same ∙ first-map g ys
-
-    pub keep-alike : length (keep (λ x. p (f x)) xs) ≡ length (keep (λ y. p (g y)) ys)
-    keep-alike = sym (length-keep-map f xs) ∙ ap (λ (zs : List A). length (keep p zs)) same ∙ length-keep-map g ys

@@ -1,9 +1,7 @@
 -- Numbers to bytes and back, one law each way for every width; a test as a number.
 use Prim.Native.Nat.{ℕ, zero, suc, _+_, _*_, _/_, _%_, _^_, _<_, _≤_}
 use mathlib.Core.Path.{_≡_, refl}
-use mathlib.Core.Bool.{Bool, true, false, cond}
 use mathlib.Core.List.{List, [], _∷_, _++_, append-assoc}
-use mir.Val.{boolByte}
 use native.Mathlib.Nat.{pow-suc, mod-lt}
 use native.Mathlib.Omega.{arith}
 use lib.ListN.{length, getD, take, length-append}
@@ -40,9 +38,3 @@ pub encode-bytes : (w x : ℕ) → Bytes (encodeNumber w x)
 encode-bytes zero x = tt
 encode-bytes (suc w) x =
     every-append IsByte (encodeNumber w (x / 256)) (x % 256 ∷ []) (encode-bytes w (x / 256)) (mod-lt x (omega arith), tt)
-
--- ---- a test as a number
-
-pub test-counted : (b : Bool) → (boolByte b ≡ cond b 1 0) × (boolByte b ≤ 1)
-test-counted true = (refl, omega arith)
-test-counted false = (refl, omega arith)

@@ -19,9 +19,8 @@ pub struct Case {
     pub aim: f64,
 }
 
-/// The aims with full mailboxes, and with all others.
-const FULL: f64 = 1.6;
-const LIGHT: f64 = 1.0;
+/// The aim of all cases.
+const AIM: f64 = 0.9;
 
 /// All cases, in the order in which they are printed: each kind in two workloads, so that no single image is tuned for.
 pub fn cases() -> Vec<Case> {
@@ -29,7 +28,7 @@ pub fn cases() -> Vec<Case> {
 }
 
 fn full_cases() -> [Case; 4] {
-    let case = |name, image, mail| Case { name, image, live: 16, late: 0, mail, aim: FULL };
+    let case = |name, image, mail| Case { name, image, live: 16, late: 0, mail, aim: AIM };
     [
         case(
             "16 tasks, mailboxes full, 60 messages hidden from the receiver",
@@ -47,7 +46,7 @@ fn full_cases() -> [Case; 4] {
 }
 
 fn light_cases() -> [Case; 6] {
-    let case = |name, image, live, mail| Case { name, image, live, late: 0, mail, aim: LIGHT };
+    let case = |name, image, live, mail| Case { name, image, live, late: 0, mail, aim: AIM };
     let tree = case("1 task that becomes a tree of 16, mailboxes nearly empty", light_mailboxes::tree(), 16, 1..=128);
     let first_and_last = registers::out_of_step([0, SLOTS - 1]);
     [

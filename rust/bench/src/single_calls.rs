@@ -13,7 +13,7 @@ pub struct Single {
 }
 
 /// The most that the monitor's time of a call may be as a multiple of the reference's.
-pub const AIM: f64 = 1.2;
+pub const AIM: f64 = 1.1;
 
 /// The calls whose time is that of reading and writing an image.
 const IMAGE_CALLS: [(&str, Call); 5] = [

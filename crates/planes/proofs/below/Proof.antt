@@ -1,5 +1,4 @@
 -- `planes::below` meets its contract: ones shifted down.
-use Prim.Native.Nat.{ℕ}
 use mathlib.Core.Path.{_≡_}
 use native.Mathlib.Omega.{arith}
 use Rattle.planes.proofs.Words.{shifted-ones}

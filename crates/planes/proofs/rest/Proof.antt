@@ -1,9 +1,6 @@
 -- `planes::rest` meets its contract: none is left of an empty set, and one less of another.
-use Prim.Native.Nat.{ℕ}
-use mathlib.Core.Path.{_≡_, ap}
+use mathlib.Core.Path.{_≡_}
 use native.Mathlib.Omega.{arith}
-use borrow.Author.Needs.{needs}
-use lib.Count.{ones}
 use Rattle.planes.proofs.Sets.{ones-zero, ones-lower}
 use Rattle.planes.proofs.rest.Statement.{statement}
 use Rattle.planes.proofs.rest.Tie as tie

@@ -1,7 +1,5 @@
 -- `planes::spread` meets its contract: 0 less a bit.
 use Prim.Native.Nat.{_/_, _^_}
-use mathlib.Core.Path.{_∙_, ap, sym}
-use native.Mathlib.Omega.{arith}
 use borrow.Author.Needs.{needs}
 use lib.Bits.{and-mask}
 use Rattle.label.specs.Label.{bit}

@@ -1,6 +1,5 @@
 -- `planes::without_bit` meets its contract: the low bits, and the others from one place higher.
 use borrow.Author.Needs.{needs}
-use native.Mathlib.Omega.{arith}
 use lib.Pow.{pow-pos}
 use Rattle.planes.proofs.Words.{one-shifted, bits-without}
 use Rattle.planes.proofs.without_bit.Statement.{statement}

@@ -1,5 +1,5 @@
 -- `table::count_receivable` meets its contract: as many as the set has.
-use mathlib.Core.Path.{_≡_, ap, _∙_}
+use mathlib.Core.Path.{ap, _∙_}
 use native.Mathlib.Omega.{arith}
 use denote.Ref.{now}
 use lib.Count.{ones, ones-le}

@@ -1,5 +1,4 @@
 -- `table::label_bit` meets its contract: bit i of plane b.
-use Prim.Native.Nat.{ℕ, _/_, _%_, _^_}
 use borrow.Author.Needs.{needs}
 use mathlib.Core.Path.{_≡_, ap, _∙_}
 use native.Mathlib.Omega.{arith}

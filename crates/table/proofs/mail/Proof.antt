@@ -1,7 +1,6 @@
 -- `table::mail` meets its contract: a start counts round the ring.
 use Prim.Native.Nat.{ℕ, _+_, _%_}
-use borrow.Author.Needs.{needs}
-use mathlib.Core.Path.{_≡_, sym, ap, _∙_}
+use mathlib.Core.Path.{sym, ap, _∙_}
 use native.Mathlib.Omega.{arith}
 use denote.Ref.{now}
 use lib.ListN.{getD}

@@ -1,5 +1,5 @@
 -- `table::message_value` meets its contract: the low four bytes of its word.
-use Prim.Native.Nat.{ℕ, _/_, _%_}
+use Prim.Native.Nat.{ℕ, _%_}
 use mathlib.Core.Path.{ap, _∙_}
 use denote.Ref.{now}
 use Rattle.table.specs.Table.{messageIn}

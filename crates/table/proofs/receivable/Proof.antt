@@ -1,5 +1,4 @@
 -- `table::receivable` meets its contract: of the 64, those that are there.
-use mathlib.Core.Path.{_≡_}
 use native.Mathlib.Omega.{arith}
 use denote.Ref.{now}
 use Rattle.label.specs.Label.{flows}
