@@ -46,7 +46,7 @@ extern "C" {
 /* The version of the library: its three numbers, and text with points between them. An image's version is its first byte. */
 #define RITHENNAW_VERSION_MAJOR 0
 #define RITHENNAW_VERSION_MINOR 3
-#define RITHENNAW_VERSION_PATCH 1
+#define RITHENNAW_VERSION_PATCH 2
 #define RITHENNAW_VERSION_STRING \
     RITHENNAW_TEXT(RITHENNAW_VERSION_MAJOR) "." RITHENNAW_TEXT(RITHENNAW_VERSION_MINOR) "." \
     RITHENNAW_TEXT(RITHENNAW_VERSION_PATCH)

@@ -349,7 +349,12 @@ fn write_message(t: &mut Table, s: usize, n: usize, label: u8, sender: u8, value
     ensures { λ _. ⌜ SlotChanged s (With n (record { label = label; sender = sender; value = value })) (now (t .entry)) (now (t .exit)) ⌝ }
 {
     let at = (start(t, s) + n) % MAILBOX_ROOM;
-    put(t, s, RING + at, (sender as u64) * 4294967296 + (value as u64));
+    put(
+        t,
+        s,
+        RING + at,
+        (sender as u64) * 4294967296 + (value as u64),
+    );
     mark(t, s, n, label);
 }
 

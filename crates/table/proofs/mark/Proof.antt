@@ -30,9 +30,9 @@ loop-again c =
     let w = window (now (a .t)) (a .s) in (
       omega arith,
       changed-stored (Planed (h .b + 1) (WithBit (a .n) (a .label))) (h .inv .1) (c .put .ensures)
-      (λ x p e.
-      planed-more (WithBit (a .n) (a .label)) w (h .b) (bit .with-bit .result) (window (h .t) (a .s)) x (omega arith) (window-length (h .t) (a .s)) p e
-      (λ kept. subst (λ (y : ℕ). WithBit (a .n) (a .label) (h .b) y (bit .with-bit .result)) (plane .plane .ensures ∙ kept) (bit .with-bit .ensures))),
+          (λ x p e.
+          planed-more (WithBit (a .n) (a .label)) w (h .b) (bit .with-bit .result) (window (h .t) (a .s)) x (omega arith) (window-length (h .t) (a .s)) p e
+          (λ kept. subst (λ (y : ℕ). WithBit (a .n) (a .label) (h .b) y (bit .with-bit .result)) (plane .plane .ensures ∙ kept) (bit .with-bit .ensures))),
     )
 
 returns : tie.Need-returns Inv-loop μ-loop

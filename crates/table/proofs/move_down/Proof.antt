@@ -33,9 +33,9 @@ loop-again c =
       omega arith,
       omega arith,
       changed-stored (Moved (a .start) (down (a .i) (h .k + 1))) (h .inv .2) (c .move-mail .ensures)
-      (λ x p e.
-      moved-more (a .start) (down (a .i) (h .k)) (down (a .i) (h .k + 1)) (window (now (a .t)) (a .s)) (window (h .t) (a .s)) x (h .k) (h .k - 1)
-      (omega arith) (omega arith) (window-length (h .t) (a .s)) p e (down-here (a .i) (h .k) (h .inv .0)) (down-other (a .i) (h .k) (omega arith))),
+          (λ x p e.
+          moved-more (a .start) (down (a .i) (h .k)) (down (a .i) (h .k + 1)) (window (now (a .t)) (a .s)) (window (h .t) (a .s)) x (h .k) (h .k - 1)
+          (omega arith) (omega arith) (window-length (h .t) (a .s)) p e (down-here (a .i) (h .k) (h .inv .0)) (down-other (a .i) (h .k) (omega arith))),
     )
 
 returns : tie.Need-returns Inv-loop μ-loop

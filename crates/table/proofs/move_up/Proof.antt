@@ -31,9 +31,9 @@ loop-again c =
     let a = b .args in (
       omega arith,
       changed-stored (Moved (a .start) (up (a .i) (h .k - 1))) (h .inv .1) (c .move-mail .ensures)
-      (λ x p e.
-      moved-more (a .start) (up (a .i) (h .k)) (up (a .i) (h .k - 1)) (window (now (a .t)) (a .s)) (window (h .t) (a .s)) x (h .k - 1) (h .k)
-      (omega arith) (omega arith) (window-length (h .t) (a .s)) p e (up-here (a .i) (h .k) (h .inv .0) (omega arith)) (up-other (a .i) (h .k) (omega arith))),
+          (λ x p e.
+          moved-more (a .start) (up (a .i) (h .k)) (up (a .i) (h .k - 1)) (window (now (a .t)) (a .s)) (window (h .t) (a .s)) x (h .k - 1) (h .k)
+          (omega arith) (omega arith) (window-length (h .t) (a .s)) p e (up-here (a .i) (h .k) (h .inv .0) (omega arith)) (up-other (a .i) (h .k) (omega arith))),
     )
 
 returns : tie.Need-returns Inv-loop μ-loop

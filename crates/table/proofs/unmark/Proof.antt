@@ -30,9 +30,9 @@ loop-again c =
     let w = window (now (a .t)) (a .s) in (
       omega arith,
       changed-stored (Planed (h .b + 1) (WithoutBit (a .k))) (h .inv .1) (c .put .ensures)
-      (λ x p e.
-      planed-more (WithoutBit (a .k)) w (h .b) (bit .without-bit .result) (window (h .t) (a .s)) x (omega arith) (window-length (h .t) (a .s)) p e
-      (λ kept. subst (λ (y : ℕ). WithoutBit (a .k) (h .b) y (bit .without-bit .result)) (plane .plane .ensures ∙ kept) (bit .without-bit .ensures))),
+          (λ x p e.
+          planed-more (WithoutBit (a .k)) w (h .b) (bit .without-bit .result) (window (h .t) (a .s)) x (omega arith) (window-length (h .t) (a .s)) p e
+          (λ kept. subst (λ (y : ℕ). WithoutBit (a .k) (h .b) y (bit .without-bit .result)) (plane .plane .ensures ∙ kept) (bit .without-bit .ensures))),
     )
 
 returns : tie.Need-returns Inv-loop μ-loop
