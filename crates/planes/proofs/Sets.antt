@@ -2,15 +2,15 @@
 use Prim.Native.Nat.{ℕ, zero, suc, _+_, _-_, _/_, _%_, _^_, _<_, _≤_, min}
 use mathlib.Core.Path.{_≡_, refl, sym, ap, ap₂, _∙_}
 use mathlib.Core.Logic.{_≢_, dite}
-use mathlib.Core.Bool.{Bool, cond}
+use mathlib.Core.Bool.{Bool, cond, _&&_}
 use mathlib.Core.List.{List, [], _∷_}
 use native.Mathlib.Nat.{pow-suc, mod-lt, mod-one, not-suc-le-zero}
 use native.Mathlib.Omega.{arith}
 use native.Mathlib.Decide.{ℕ-discrete}
 use borrow.Author.Tests.{le-leb, lt-leb, lt-ltb, le-ltb}
-use lib.Dec.{leb, ltb}
+use lib.Dec.{leb, ltb, leb·suc-suc}
 use lib.Arith.{mod-mul}
-use lib.ListN.{length, take}
+use lib.ListN.{length, getD, take}
 use lib.Pow.{pow-pos}
 use lib.Bits.{bitAnd, and-step, and-self}
 use lib.Count.{ones, ones-step, trailingZeros, under}
@@ -18,7 +18,7 @@ use Rattle.wire.specs.Lists.{keep, tabulate}
 use Rattle.wire.specs.Inner.{firstIndex}
 use Rattle.wire.proofs.Lists.{split}
 use Rattle.label.specs.Label.{bit}
-use Rattle.label.proofs.Bits.{bit-first, bit-half, two}
+use Rattle.label.proofs.Bits.{bit-first, bit-half, bit-zero, two}
 use Rattle.planes.specs.Planes.{setOf}
 
 module _ {A : Type 0} (p : A → Bool) where
@@ -40,6 +40,13 @@ module _ {A : Type 0} (p : A → Bool) where
   set-half : (x : A) (xs : List A) → setOf p (x ∷ xs) / 2 ≡ setOf p xs
   unfolding setOf
   set-half x xs = split (p x) (λ e. rw e (omega arith)) (λ e. rw e (omega arith))
+
+  -- bit by bit
+  pub set-bit : (xs : List A) (i : ℕ) (d : A) → bit i (setOf p xs) ≡ cond (ltb i (length xs) && p (getD xs i d)) 1 0
+  unfolding setOf
+  set-bit [] i d = rw (le-ltb i 0 (omega arith)) (bit-zero i)
+  set-bit (x ∷ xs) zero d = rw (lt-ltb 0 (suc (length xs)) (omega arith)) (bit-first (setOf p (x ∷ xs)) ∙ set-odd x xs)
+  set-bit (x ∷ xs) (suc i) d = rw (leb·suc-suc (suc i) (length xs)) (bit-half i (setOf p (x ∷ xs)) ∙ ap (bit i) (set-half x xs) ∙ set-bit xs i d)
 
   pub ones-set : (xs : List A) → ones (setOf p xs) ≡ length (keep p xs)
   unfolding setOf ones

@@ -1,4 +1,4 @@
--- Words of 64 bits, one for each message of a mailbox: sets of messages, and the labels of the messages as planes.
+-- Words with a bit for each of 64 messages: sets of messages, and planes, which hold the labels.
 use Prim.Native.Nat.{ℕ, zero, suc, _+_, _*_, _<_}
 use mathlib.Core.Path.{_≡_}
 use mathlib.Core.Bool.{Bool, cond}
@@ -6,7 +6,7 @@ use mathlib.Core.List.{List, [], _∷_}
 use lib.Dec.{ltb}
 use Rattle.label.specs.Label.{bit}
 
--- the set of the elements at which p passes: bit i is 1 exactly where there is an element i and p passes at it
+-- the set of the elements at which p passes: bit i is 1 exactly where there is an element i and p passes at it (`set-bit`, planes/proofs/Sets.antt)
 unfoldable pub setOf : {A : Type 0} → (A → Bool) → List A → ℕ
 setOf p [] = 0
 setOf p (x ∷ xs) = cond (p x) 1 0 + 2 * setOf p xs

@@ -1,4 +1,4 @@
-// Words of 64 bits, one for each message of a mailbox: sets of messages, and the labels of the messages as planes of bits.
+// Words with a bit for each of 64 messages: sets of messages, and planes, which hold the labels.
 ghost use Prim.Native.Nat.{_-_, _<_, _≤_, _^_};
 ghost use mathlib.Core.Path.{_≡_};
 ghost use mathlib.Core.Bool.{cond};
@@ -21,7 +21,7 @@ pub fn below(n: usize) -> u64
     }
 }
 
-// A set without its lowest message.
+// A set without its lowest message: what counts is that it has one less.
 fn rest(set: u64) -> u64
     ensures { λ r. ⌜ ones r ≡ ones set - 1 ⌝ }
 {

@@ -27,7 +27,7 @@ use Rattle.image.proofs.Records.{slot-some, task-length}
 use Rattle.table.specs.Table.{held}
 use Rattle.table.specs.Change.{noMessage, taskAt, Used, changeSlot, change, withMessage, newTask}
 use Rattle.table.proofs.Change.{change-none, change-set, change-at, change-change}
-use Rattle.snapshot.specs.Loading.{Labelled, Loadable, LoadableSlots, registersSet, messagesAdded}
+use Rattle.snapshot.specs.Loading.{LabelsFit, Loadable, LoadableSlots, registersSet, messagesAdded}
 
 -- what is lent from index k on
 pub from-on : (k : ℕ) (xs : List ℕ) → take (length xs - k) (drop k xs) ≡ drop k xs
@@ -145,8 +145,8 @@ load-next b ys k r ss h l e f =
 -- ---- an accepted image
 
 -- the messages of a mailbox that is sound have labels
-mail-labelled : (b : List ℕ) → MailboxFacts (decodeItems 6 messageOf (length b / 6) b) → Labelled b
-mail-labelled b facts i h =
+labels-fit : (b : List ℕ) → MailboxFacts (decodeItems 6 messageOf (length b / 6) b) → LabelsFit b
+labels-fit b facts i h =
     let ms = decodeItems 6 messageOf (length b / 6) b in
     let first : 6 * i + 0 ≡ 6 * i = omega arith in
     let small : (m : Message) → MessageFacts m → m .label ≤ 15 = λ m f. f .label in
@@ -164,4 +164,4 @@ module _ (b : List ℕ) where
       let facts = task-facts (count (programOf b)) i (taskOf r) valid in
       let back : taskBytes (taskOf r) ≡ r = rw (slot-some r (λ z. omega arith)) at (record-accepted b i h e (omega arith)) in
       let long : 37 ≤ length r = omega (arith, task-length (count (programOf b)) i (taskOf r) valid, ap length back) in
-      record { long = long; kind = facts .kind-low; messages = rw length-decode at (mailbox-64 (taskOf r .mailbox) (facts .mailbox)); labels = mail-labelled (drop 37 r) (facts .mailbox) }
+      record { long = long; kind = facts .kind-low; messages = rw length-decode at (mailbox-64 (taskOf r .mailbox) (facts .mailbox)); labels = labels-fit (drop 37 r) (facts .mailbox) }

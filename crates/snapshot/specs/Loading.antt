@@ -20,16 +20,16 @@ unfoldable pub messagesAdded : ℕ → List ℕ → Task → Task
 messagesAdded zero b t = t
 messagesAdded (suc k) b t = withMessage (messageOf (drop (messageSize * k) b)) (messagesAdded k b t)
 
--- the messages of b have labels
-abbrev pub Labelled : List ℕ → Type 0
-Labelled b = (i : ℕ) → i < length b / messageSize → getD b (messageSize * i) 0 ≤ highestLabel
+-- the labels of the messages of b are labels
+abbrev pub LabelsFit : List ℕ → Type 0
+LabelsFit b = (i : ℕ) → i < length b / messageSize → getD b (messageSize * i) 0 ≤ highestLabel
 
 -- a record whose task the table can hold: all fields, a kind, and no more messages than a mailbox has room for, each with a label
 pub record Loadable (r : List ℕ) : Type 0 where
   pub long : mailboxAt ≤ length r
   pub kind : 1 ≤ getD r kindAt 0
   pub messages : length (drop mailboxAt r) / messageSize ≤ mailboxRoom
-  pub labels : Labelled (drop mailboxAt r)
+  pub labels : LabelsFit (drop mailboxAt r)
 
 -- no bytes are an unused slot
 abbrev pub LoadableSlot : List ℕ → Type 0

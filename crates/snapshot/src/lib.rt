@@ -15,7 +15,7 @@ ghost use Rattle.image.specs.Image.{slotsOf, stateOf};
 ghost use Rattle.image.specs.Refusal.{imageNumber};
 ghost use Rattle.table.specs.Table.{mailboxRoom, slotsIn};
 ghost use Rattle.table.specs.Change.{taskAt, Used, messageAt, change};
-ghost use Rattle.snapshot.specs.Loading.{Labelled, Loadable, LoadableSlot, LoadableSlots, registersSet, messagesAdded};
+ghost use Rattle.snapshot.specs.Loading.{LabelsFit, Loadable, LoadableSlot, LoadableSlots, registersSet, messagesAdded};
 ghost use Rattle.snapshot.specs.Writing.{snapshotBytes, headBytes, shownSlot, shownTask, shownMessage, isShown};
 
 // ---- load
@@ -36,7 +36,7 @@ fn load_registers(table: &mut table::Table, slot: usize, registers: &[u8])
 // Adds the messages to the mailbox of the task in a slot.
 fn load_mailbox(table: &mut table::Table, slot: usize, mailbox: &[u8])
     requires { ⌜ Used slot (slotsIn (now table))
-        × (length (taskAt (slotsIn (now table)) slot .mailbox) + length (now mailbox) / messageSize ≤ mailboxRoom) × Labelled (now mailbox) ⌝ }
+        × (length (taskAt (slotsIn (now table)) slot .mailbox) + length (now mailbox) / messageSize ≤ mailboxRoom) × LabelsFit (now mailbox) ⌝ }
     ensures { λ _. ⌜ slotsIn (now (table .exit))
         ≡ change slot (messagesAdded (length (now (mailbox .entry)) / messageSize) (now (mailbox .entry))) (slotsIn (now (table .entry))) ⌝ }
 {

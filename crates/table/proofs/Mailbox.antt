@@ -21,7 +21,7 @@ use Rattle.table.specs.Words.{SlotChanged, SlotStored, With, Without}
 use Rattle.table.proofs.Window.{window-length}
 use Rattle.table.proofs.Task.{count-stored, fields-kept}
 use Rattle.table.proofs.Change.{mail-used}
-use Rattle.table.proofs.Slots.{used-slot, mailbox-is, mailbox-read, change-slots}
+use Rattle.table.proofs.Slots.{used-slot, mailbox-is, mailbox-read, frame-change}
 
 -- ---- one slot's words
 
@@ -35,7 +35,7 @@ module _ (w u : List ℕ) (long : length u ≡ 84) (n : ℕ) (count : n ≡ min 
   append-task m room p =
       let more : min (n + 1) 64 ≡ suc n = omega arith in
       let old : min (getD w 12 0) 64 ≡ n = omega arith in
-      mailbox-stored (n + 1) (p .fields)
+      mailbox-stored (n + 1) (λ k h. p .fields k (omega arith))
       ∙ ap (λ (ms : List Message). withMailbox ms (taskIn w)) (rw (more, old) (tabulate-append n (messageIn w) (messageIn u) m (p .before) (p .last)))
 
   remove-task : (i : ℕ) → i < n → Without i n w u → taskIn (set u 12 (n - 1)) ≡ withMailbox (without i (taskIn w .mailbox)) (taskIn w)
@@ -43,7 +43,7 @@ module _ (w u : List ℕ) (long : length u ≡ 84) (n : ℕ) (count : n ≡ min 
   remove-task i h p =
       let less : min (n - 1) 64 ≡ n - 1 = omega arith in
       let old : min (getD w 12 0) 64 ≡ suc (n - 1) = omega arith in
-      mailbox-stored (n - 1) (p .fields)
+      mailbox-stored (n - 1) (λ k h. p .fields k (omega arith) (λ e. omega arith))
       ∙ ap (λ (ms : List Message). withMailbox ms (taskIn w))
       (rw (less, old)
       (tabulate-without (n - 1) (messageIn w) (messageIn u) i (omega arith)
@@ -80,7 +80,7 @@ module _ (t : List ℕ) (s : ℕ) (here : Used s (slotsIn t)) where
       → slotsIn u ≡ change s (withMessage m) (slotsIn t)
   append-slots n m t₁ u count room p q =
       let read = mailbox-read t s here in
-      change-slots t u s (used-slot t s here) (λ j l ne. q .other j l ne ∙ p .other j l ne) (withMessage m) (λ k. refl)
+      frame-change t u s (used-slot t s here) (λ j l ne. q .other j l ne ∙ p .other j l ne) (withMessage m) (λ k. refl)
       (ap taskIn (q .here) ∙ append-task w (window t₁ s) (window-length t₁ s) n (omega arith) m (omega arith) (p .here))
 
 -- a message gone, and then its count
@@ -89,5 +89,5 @@ pub remove-slots : (t t₁ u : List ℕ) (s i n : ℕ) → i < length (taskAt (s
 remove-slots t t₁ u s i n h count p q =
     let here = mail-used (slotsIn t) s i h in
     let read = mailbox-read t s here in
-    change-slots t u s (used-slot t s here) (λ j l ne. q .other j l ne ∙ p .other j l ne) (withoutMessage i) (λ k. refl)
+    frame-change t u s (used-slot t s here) (λ j l ne. q .other j l ne ∙ p .other j l ne) (withoutMessage i) (λ k. refl)
     (ap taskIn (q .here) ∙ remove-task (window t s) (window t₁ s) (window-length t₁ s) n (omega arith) i (omega arith) (p .here))

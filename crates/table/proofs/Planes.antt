@@ -68,7 +68,7 @@ module _ (n at : ℕ) (m : Message) (w w₁ u : List ℕ) (long : length w ≡ 8
       let s : word / 4294967296 % 256 ≡ m .sender = omega arith in
       let v : word % 4294967296 ≡ m .value = omega arith in
       record {
-        fields = λ k h. field k (omega arith);
+        fields = field;
         before = λ i h. message-same w u i i (λ b l. p .changed b l i (omega arith) ∙ rw (ne-eqb i n (λ e. omega arith), plane b l)) (old i h);
         last = rw (label-is 4 (planeIn u) n (m .label) (omega arith) (λ b l. p .changed b l n room ∙ rw (eq-eqb n n refl)), new, s, v);
       }
@@ -79,7 +79,7 @@ pub message-without : (i n : ℕ) (w w₁ u : List ℕ) → n ≤ 64 → Closed 
 message-without i n w w₁ u many c p =
     let start : getD u 13 0 ≡ getD w₁ 13 0 = p .fields 13 (omega arith) in
     record {
-      fields = λ k h. p .fields k (omega arith) ∙ c .fields k h;
+      fields = λ k h ne. p .fields k h ∙ c .fields k h ne;
       others = λ j h.
           message-same w u _ j (λ b l. p .changed b l j (omega arith) ∙ rw (c .planes b l)) (rw (start, p .ring) (c .mail j h));
     }

@@ -10,6 +10,7 @@ use borrow.Author.Tests.{lt-ltb, le-ltb}
 use lib.Dec.{ltb}
 use lib.ListN.{length, getD, drop, set, length-drop}
 use lib.Seq.{getD-drop, drop-set-add, drop-set-lt, getD-set-same, getD-set-other}
+use Rattle.planes.specs.Planes.{behindGap}
 use Rattle.table.specs.Table.{ringIn}
 use Rattle.table.specs.Words.{Moved, down, up, Closed}
 
@@ -78,10 +79,10 @@ closed-down i n s w u is many q =
     let p = subst (λ (k : ℕ). Moved k (down i n) w u) is q in
     let start : getD u 13 0 ≡ x = p .fields 13 (omega arith) in
     record {
-      fields = λ k h. p .fields k (omega arith);
+      fields = λ k h ne. p .fields k h;
       planes = p .planes;
       mail = λ j h.
-          rw (start, ← start-round x j, ← start-round x (cond (ltb j i) j (suc j)))
+          rw (start, ← start-round x j, ← start-round x (behindGap i j))
           (p .moved j (omega arith) ∙ rw (lt-ltb (suc j) n h));
     }
 
@@ -94,13 +95,13 @@ closed-up i n s w u v is long less many q stored =
     let e = subst (λ (k : ℕ). v ≡ set u 13 ((k + 1) % 64)) is stored in
     let y = (x % 64 + 1) % 64 in
     let start : getD (set u 13 y) 13 0 ≡ y = getD-set-same u 13 y 0 (omega arith) in
-    let next : (j : ℕ) → up i 0 (suc j) ≡ cond (ltb j i) j (suc j)
+    let next : (j : ℕ) → up i 0 (suc j) ≡ behindGap i j
     = λ j. dite (decLt j i) (λ l. rw (le-ltb i (suc j) l, lt-ltb 0 (suc j) (omega arith), lt-ltb j i l) (omega arith)) (λ l. rw (lt-ltb i (suc j) (omega arith), le-ltb j i (omega arith))) in
     rw e
     (record {
-      fields = λ k h. getD-set-other u 13 k y 0 (λ q. omega arith) ∙ p .fields k (omega arith);
+      fields = λ k h ne. getD-set-other u 13 k y 0 ne ∙ p .fields k h;
       planes = λ b h. rw (drop-set-lt 16 u 13 y (omega arith)) (p .planes b h);
       mail = λ j h.
-          rw (start, drop-set-lt 20 u 13 y (omega arith), start-next x j, ← start-round x (cond (ltb j i) j (suc j)))
+          rw (start, drop-set-lt 20 u 13 y (omega arith), start-next x j, ← start-round x (behindGap i j))
           (p .moved (suc j) (omega arith) ∙ rw (next j));
     })

@@ -38,24 +38,24 @@ held-change g k e =
 
 module _ (t u : List ℕ) (s : ℕ) (l : s < 16) (other : (j : ℕ) → j < 16 → j ≢ s → window u j ≡ window t j) where
   -- no other slot has changed
-  set-slots : (x : Slot) → held (taskIn (window u s)) ≡ x → slotsIn u ≡ set (slotsIn t) s x
+  slots-frame : (x : Slot) → held (taskIn (window u s)) ≡ x → slotsIn u ≡ set (slotsIn t) s x
   unfolding slotsIn
-  set-slots x e =
+  slots-frame x e =
       let held-in : List ℕ → Slot = λ w. held (taskIn w) in
       tabulate-set 16 (λ j. held-in (window t j)) (λ j. held-in (window u j)) s (λ j small ne. ap held-in (other j small ne)) l ∙ ap (set (slotsIn t) s) e
 
   -- a change of the task that leaves its kind
-  pub change-slots : (g : Task → Task) → ((k : Task) → g k .kind ≡ k .kind) → taskIn (window u s) ≡ g (taskIn (window t s)) → slotsIn u ≡ change s g (slotsIn t)
-  change-slots g same e =
-      set-slots (changeSlot g (slotAt (slotsIn t) s)) (rw (slot-in t s l, e) (held-change g (taskIn (window t s)) (same (taskIn (window t s)))))
+  pub frame-change : (g : Task → Task) → ((k : Task) → g k .kind ≡ k .kind) → taskIn (window u s) ≡ g (taskIn (window t s)) → slotsIn u ≡ change s g (slotsIn t)
+  frame-change g same e =
+      slots-frame (changeSlot g (slotAt (slotsIn t) s)) (rw (slot-in t s l, e) (held-change g (taskIn (window t s)) (same (taskIn (window t s)))))
 
 module _ {s : ℕ} {f : List ℕ → List ℕ} {t u : List ℕ} (p : SlotStored s f t u) (l : s < 16) where
   pub slots-set : (x : Slot) → held (taskIn (f (window t s))) ≡ x → slotsIn u ≡ set (slotsIn t) s x
-  slots-set x e = set-slots t u s l (p .other) x (ap (λ (w : List ℕ). held (taskIn w)) (p .here) ∙ e)
+  slots-set x e = slots-frame t u s l (p .other) x (ap (λ (w : List ℕ). held (taskIn w)) (p .here) ∙ e)
 
   pub slots-change : (g : Task → Task) → ((k : Task) → g k .kind ≡ k .kind)
       → (length (window t s) ≡ 84 → taskIn (f (window t s)) ≡ g (taskIn (window t s))) → slotsIn u ≡ change s g (slotsIn t)
-  slots-change g same e = change-slots t u s l (p .other) g same (ap taskIn (p .here) ∙ e (window-length t s))
+  slots-change g same e = frame-change t u s l (p .other) g same (ap taskIn (p .here) ∙ e (window-length t s))
 
 -- ---- reading
 

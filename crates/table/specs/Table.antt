@@ -41,9 +41,6 @@ ringWord = 20
 abbrev pub slotWords : ℕ
 slotWords = 84
 
-abbrev pub tableWords : ℕ
-tableWords = 16 * slotWords
-
 -- how many messages a mailbox has room for
 abbrev pub mailboxRoom : ℕ
 mailboxRoom = 64

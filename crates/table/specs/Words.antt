@@ -62,17 +62,17 @@ up i k j = cond (ltb i j) j (cond (ltb k j) (j - 1) j)
 
 -- message m stands behind the first n, and the fields are kept
 pub record With (n : ℕ) (m : Message) (w u : List ℕ) : Type 0 where
-  pub fields : (k : ℕ) → k < startWord → getD u k 0 ≡ getD w k 0
+  pub fields : (k : ℕ) → k < planesWord → getD u k 0 ≡ getD w k 0
   pub before : (i : ℕ) → i < n → messageIn u i ≡ messageIn w i
   pub last : messageIn u n ≡ m
 
--- the words of the ring without message i of n
+-- the words of the ring without message i of n; the start may have moved, and the other fields are kept
 pub record Closed (i n : ℕ) (w u : List ℕ) : Type 0 where
-  pub fields : (k : ℕ) → k < startWord → getD u k 0 ≡ getD w k 0
+  pub fields : (k : ℕ) → k < planesWord → k ≢ startWord → getD u k 0 ≡ getD w k 0
   pub planes : (b : ℕ) → b < 4 → planeIn u b ≡ planeIn w b
   pub mail : (j : ℕ) → suc j < n → ringIn (getD u startWord 0) u j ≡ ringIn (getD w startWord 0) w (behindGap i j)
 
--- message i of n is gone, and the fields are kept
+-- message i of n is gone; the start may have moved, and the other fields are kept
 pub record Without (i n : ℕ) (w u : List ℕ) : Type 0 where
-  pub fields : (k : ℕ) → k < startWord → getD u k 0 ≡ getD w k 0
+  pub fields : (k : ℕ) → k < planesWord → k ≢ startWord → getD u k 0 ≡ getD w k 0
   pub others : (j : ℕ) → suc j < n → messageIn u j ≡ messageIn w (behindGap i j)

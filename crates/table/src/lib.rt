@@ -1,7 +1,7 @@
 // The working storage of a call: sixteen slots of 84 words each, lent to the call and touched by slot and field only.
 // Nothing is tested here that a caller knows: that a slot is one of the sixteen or is used, a register one of the eight, a
 // message in the mailbox, and a label one of four bits.
-ghost use Prim.Native.Nat.{_+_, _-_, _<_, _≤_, _*_, _%_};
+ghost use Prim.Native.Nat.{_+_, _<_, _≤_, _%_};
 ghost use mathlib.Core.Path.{_≡_};
 ghost use mathlib.Core.Bool.{cond};
 ghost use lib.Dec.{eqb};
@@ -10,9 +10,10 @@ ghost use Rattle.wire.specs.Lists.{keep};
 ghost use Rattle.wire.specs.Inner.{firstIndex};
 ghost use Rattle.label.specs.Label.{bit, flows};
 ghost use Rattle.planes.specs.Planes.{Bits, setOf, labelFrom};
+ghost use Rattle.machine.specs.Limits.{highestLabel};
 ghost use Rattle.machine.specs.State.{unused, slotAt, register, withLabel, withSpare, withPc, withRegister};
 ghost use Rattle.machine.specs.Turn.{hasRoom};
-ghost use Rattle.table.specs.Table.{slotWords, tableWords, mailboxRoom, window, planeIn, ringIn, slotsIn, held};
+ghost use Rattle.table.specs.Table.{startWord, ringWord, slotWords, mailboxRoom, window, planeIn, ringIn, slotsIn, held};
 ghost use Rattle.table.specs.Words.{SlotChanged, SlotStored, cleared, Planed, WithBit, WithoutBit, Moved, down, up, With, Closed, Without};
 ghost use Rattle.table.specs.Change.{Used, taskAt, messageAt, change, slotWithKind, withMessage, withoutMessage, newTask};
 
@@ -28,7 +29,7 @@ pub type Table = [u64; WORDS];
 const MAILBOX_ROOM: usize = 64;
 
 // A slot's words: one for each field, one for each plane of the messages' labels, and a ring of 64 for the messages. The two
-// behind the start are free; the first of them is kept for a clearance.
+// words behind START are free; the first is kept for a clearance.
 const KIND: usize = 0;
 
 const LABEL: usize = 1;
@@ -147,9 +148,9 @@ pub fn mailbox_length(t: &Table, s: usize) -> usize
 }
 
 // Where in the ring the oldest message of slot s lies.
-fn start(t: &Table, s: usize) -> usize
+fn ring_start(t: &Table, s: usize) -> usize
     requires { ⌜ s < 16 ⌝ }
-    ensures { λ r. ⌜ r ≡ getD (window (now (t .entry)) s) 13 0 % mailboxRoom ⌝ }
+    ensures { λ r. ⌜ r ≡ getD (window (now (t .entry)) s) startWord 0 % mailboxRoom ⌝ }
 {
     (word(t, s, START) % 64) as usize
 }
@@ -157,9 +158,9 @@ fn start(t: &Table, s: usize) -> usize
 // The word of message i in slot s.
 fn mail(t: &Table, s: usize, i: usize) -> u64
     requires { ⌜ (s < 16) × (i < mailboxRoom) ⌝ }
-    ensures { λ r. ⌜ r ≡ ringIn (getD (window (now (t .entry)) s) 13 0) (window (now (t .entry)) s) i ⌝ }
+    ensures { λ r. ⌜ r ≡ ringIn (getD (window (now (t .entry)) s) startWord 0) (window (now (t .entry)) s) i ⌝ }
 {
-    word(t, s, RING + (start(t, s) + i) % MAILBOX_ROOM)
+    word(t, s, RING + (ring_start(t, s) + i) % MAILBOX_ROOM)
 }
 
 // Plane b of slot s.
@@ -205,9 +206,9 @@ pub fn message_value(t: &Table, s: usize, i: usize) -> u32
 
 // ---- sets of messages
 
-// Where slot s would have a message of this label, were there 64: plane by plane those go that differ.
+// Bit i: whether the label of message i in slot s is this one, for each of 64, there or not. Plane by plane those go that differ.
 fn labelled(t: &Table, s: usize, label: u8) -> u64
-    requires { ⌜ (s < 16) × (label ≤ 15) ⌝ }
+    requires { ⌜ (s < 16) × (label ≤ highestLabel) ⌝ }
     ensures { λ r. ⌜ Bits (λ i. cond (eqb (labelFrom 4 (planeIn (window (now (t .entry)) s)) i) label) 1 0) r ⌝ }
 {
     let mut apart: u64 = 0;
@@ -219,7 +220,8 @@ fn labelled(t: &Table, s: usize, label: u8) -> u64
     !apart
 }
 
-// Where slot s would have a message whose label flows to `label`, were there 64: plane by plane those go that have more.
+// Bit i: whether the label of message i in slot s flows to `label`, for each of 64, there or not. Plane by plane those go that have a
+// bit that it has not.
 fn flowing(t: &Table, s: usize, label: u8) -> u64
     requires { ⌜ s < 16 ⌝ }
     ensures { λ r. ⌜ Bits (λ i. cond (flows (labelFrom 4 (planeIn (window (now (t .entry)) s)) i) label) 1 0) r ⌝ }
@@ -234,15 +236,15 @@ fn flowing(t: &Table, s: usize, label: u8) -> u64
 }
 
 // The messages of a label in slot s.
-pub fn of_label(t: &Table, s: usize, label: u8) -> u64
-    requires { ⌜ Used s (slotsIn (now t)) × (label ≤ 15) ⌝ }
+fn of_label(t: &Table, s: usize, label: u8) -> u64
+    requires { ⌜ Used s (slotsIn (now t)) × (label ≤ highestLabel) ⌝ }
     ensures { λ r. ⌜ r ≡ setOf (λ m. eqb (m .label) label) (taskAt (slotsIn (now (t .entry))) s .mailbox) ⌝ }
 {
     labelled(t, s, label) & planes::below(mailbox_length(t, s))
 }
 
 // The messages in slot s whose labels flow to `label`.
-pub fn receivable(t: &Table, s: usize, label: u8) -> u64
+fn receivable(t: &Table, s: usize, label: u8) -> u64
     requires { ⌜ Used s (slotsIn (now t)) ⌝ }
     ensures { λ r. ⌜ r ≡ setOf (λ m. flows (m .label) label) (taskAt (slotsIn (now (t .entry))) s .mailbox) ⌝ }
 {
@@ -273,7 +275,7 @@ pub fn count_receivable(t: &Table, s: usize, label: u8) -> usize
 
 // Whether slot s has fewer than four messages of a label.
 pub fn has_room(t: &Table, s: usize, label: u8) -> bool
-    requires { ⌜ Used s (slotsIn (now t)) × (label ≤ 15) ⌝ }
+    requires { ⌜ Used s (slotsIn (now t)) × (label ≤ highestLabel) ⌝ }
     ensures { λ r. ⌜ r ≡ hasRoom label (taskAt (slotsIn (now (t .entry))) s .mailbox) ⌝ }
 {
     if mailbox_length(t, s) < 4 {
@@ -345,10 +347,10 @@ fn mark(t: &mut Table, s: usize, n: usize, label: u8)
 
 // Message n is written behind those before it; the count is not.
 fn write_message(t: &mut Table, s: usize, n: usize, label: u8, sender: u8, value: u32)
-    requires { ⌜ (s < 16) × (n < mailboxRoom) × (label ≤ 15) ⌝ }
+    requires { ⌜ (s < 16) × (n < mailboxRoom) × (label ≤ highestLabel) ⌝ }
     ensures { λ _. ⌜ SlotChanged s (With n (record { label = label; sender = sender; value = value })) (now (t .entry)) (now (t .exit)) ⌝ }
 {
-    let at = (start(t, s) + n) % MAILBOX_ROOM;
+    let at = (ring_start(t, s) + n) % MAILBOX_ROOM;
     put(
         t,
         s,
@@ -360,7 +362,7 @@ fn write_message(t: &mut Table, s: usize, n: usize, label: u8, sender: u8, value
 
 // The message joins the end of a mailbox that has room for it.
 pub fn append(t: &mut Table, s: usize, label: u8, sender: u8, value: u32)
-    requires { ⌜ Used s (slotsIn (now t)) × (length (taskAt (slotsIn (now t)) s .mailbox) < mailboxRoom) × (label ≤ 15) ⌝ }
+    requires { ⌜ Used s (slotsIn (now t)) × (length (taskAt (slotsIn (now t)) s .mailbox) < mailboxRoom) × (label ≤ highestLabel) ⌝ }
     ensures { λ _. ⌜ slotsIn (now (t .exit)) ≡ change s (withMessage (record { label = label; sender = sender; value = value })) (slotsIn (now (t .entry))) ⌝ }
 {
     let n = word(t, s, COUNT) as usize;
@@ -384,7 +386,7 @@ fn unmark(t: &mut Table, s: usize, k: usize)
 // The word of message `from` is written over that of message `to`, both counted from a start of the ring.
 fn move_mail(t: &mut Table, s: usize, start: usize, from: usize, to: usize)
     requires { ⌜ (s < 16) × (start < mailboxRoom) × (from < mailboxRoom) × (to < mailboxRoom) ⌝ }
-    ensures { λ _. ⌜ SlotStored s (λ w. set w (20 + (start + to) % mailboxRoom) (ringIn start w from)) (now (t .entry)) (now (t .exit)) ⌝ }
+    ensures { λ _. ⌜ SlotStored s (λ w. set w (ringWord + (start + to) % mailboxRoom) (ringIn start w from)) (now (t .entry)) (now (t .exit)) ⌝ }
 {
     let x = word(t, s, RING + (start + from) % MAILBOX_ROOM);
     put(t, s, RING + (start + to) % MAILBOX_ROOM, x);
@@ -419,7 +421,7 @@ fn close_gap(t: &mut Table, s: usize, i: usize, n: usize)
     requires { ⌜ (s < 16) × (i < n) × (n ≤ mailboxRoom) ⌝ }
     ensures { λ _. ⌜ SlotChanged s (Closed i n) (now (t .entry)) (now (t .exit)) ⌝ }
 {
-    let start = start(t, s);
+    let start = ring_start(t, s);
     if i + i < n {
         move_up(t, s, start, i);
         put(t, s, START, ((start + 1) % MAILBOX_ROOM) as u64);
@@ -433,12 +435,12 @@ fn drop_first(t: &mut Table, s: usize, n: usize)
     requires { ⌜ (s < 16) × (0 < n) × (n ≤ mailboxRoom) ⌝ }
     ensures { λ _. ⌜ SlotChanged s (Without 0 n) (now (t .entry)) (now (t .exit)) ⌝ }
 {
-    let start = start(t, s);
+    let start = ring_start(t, s);
     put(t, s, START, ((start + 1) % MAILBOX_ROOM) as u64);
     unmark(t, s, 0);
 }
 
-// Message i of n goes; the count is kept. The oldest needs no moves, so it has a way of its own.
+// Message i of n goes; the count is kept. The oldest has a way of its own, in which each plane is one shift.
 fn drop_message(t: &mut Table, s: usize, i: usize, n: usize)
     requires { ⌜ (s < 16) × (i < n) × (n ≤ mailboxRoom) ⌝ }
     ensures { λ _. ⌜ SlotChanged s (Without i n) (now (t .entry)) (now (t .exit)) ⌝ }

@@ -5,6 +5,7 @@ ghost use mathlib.Core.Bool.{true};
 ghost use lib.ListN.{length, set};
 ghost use Rattle.label.specs.Label.{flows, join};
 ghost use Rattle.instruction.specs.declared.Instruction.the-variants.{Copy, Add, Subtract, Zero, Raise, Send, Take, Poll, Sandbox, Identity};
+ghost use Rattle.machine.specs.Limits.{highestLabel};
 ghost use Rattle.machine.specs.State.{used, slotAt, hasLiveTask, withRegister, next};
 ghost use Rattle.machine.specs.Effect.{childOf, oldest, deliver, outcome};
 ghost use Rattle.machine.specs.Turn.{perform, applied};
@@ -103,7 +104,7 @@ fn identity(table: &mut table::Table, slot: u8, a: u8, b: u8)
 
 // Whether slot `to` has a live task with fewer than four messages of the label. A number above 15 names no slot.
 fn accepts(table: &table::Table, to: u32, label: u8) -> bool
-    requires { ⌜ label ≤ 15 ⌝ }
+    requires { ⌜ label ≤ highestLabel ⌝ }
     ensures { λ r. ⌜ r ≡ accepts label (slotAt (slotsIn (now (table .entry))) to) ⌝ }
 {
     if to < 16 {
@@ -329,7 +330,7 @@ fn round_end(slot: u8, left: u64) -> u8
 }
 
 // The turns of the slots from `first` up to `end`, each followed by the next: how many met a live task. The slots below `bottom` and
-// from `top` on are unused and stay so, and are passed over. Counted are the others without one, so that a live task's turn counts nothing.
+// from `top` on are unused and stay so, and are passed over. It counts the slots without a live task, so that a live task's turn counts nothing.
 fn round(table: &mut table::Table, program: &[u8], first: u8, end: u8, bottom: u8, top: u8) -> u64
     requires { ⌜ Valid (stateIn (now program) first (now table)) × (first ≤ end) × (end ≤ 16) × Within bottom top (slotsIn (now table)) ⌝ }
     ensures { λ r. ⌜ (r ≡ busy (end - first) (stateIn (now (program .entry)) first (now (table .entry))))

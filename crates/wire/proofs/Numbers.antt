@@ -1,4 +1,4 @@
--- Numbers to bytes and back, one law each way for every width; a test as a number.
+-- Numbers to bytes and back, one law each way for every width.
 use Prim.Native.Nat.{ℕ, zero, suc, _+_, _*_, _/_, _%_, _^_, _<_, _≤_}
 use mathlib.Core.Path.{_≡_, refl}
 use mathlib.Core.List.{List, [], _∷_, _++_, append-assoc}

@@ -1,6 +1,6 @@
 //! Prints the times of turns and of calls over all layouts, and tells which aims are missed.
 
-use crate::cases::Case;
+use crate::cases::{self, Case};
 use crate::figure::Figure;
 use crate::layouts::{Layout, ROUNDS};
 use crate::measure::RUNS;
@@ -30,7 +30,7 @@ fn print_turns(cases: &[Case], figures: &[Vec<Figure>]) -> Vec<String> {
     println!("{:<64} {:>5} {:>8} {}", "image", "mail", "busy", Verdict::heads());
     let mut missed = Vec::new();
     for (case, figures) in cases.iter().zip(figures) {
-        let verdict = Verdict::new(figures, TURNS_MAX as f64, case.aim);
+        let verdict = Verdict::new(figures, TURNS_MAX as f64, cases::AIM);
         let [mail, busy] = figures[0].facts;
         println!("{:<64} {mail:>5} {busy:>8} {}", case.name, verdict.columns());
         missed.extend(miss(&verdict, case.name));

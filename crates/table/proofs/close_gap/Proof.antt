@@ -16,7 +16,7 @@ returns c =
     let a = b .args in
     changed-stored (Closed (a .i) (a .n)) (up .move-up .ensures) (c .put .ensures)
     (λ x p e.
-    closed-up (a .i) (a .n) (start .start .result) (window (now (a .t)) (a .s)) (window (up .move-up .last .0) (a .s)) x (start .start .ensures)
+    closed-up (a .i) (a .n) (start .ring-start .result) (window (now (a .t)) (a .s)) (window (up .move-up .last .0) (a .s)) x (start .ring-start .ensures)
     (window-length (up .move-up .last .0) (a .s)) (omega arith) (omega arith) p e)
 
 returns-2 : tie.Need-returns-2
@@ -25,7 +25,7 @@ returns-2 c =
     let b = start .before .before in
     let a = b .args in
     changed-as (Closed (a .i) (a .n)) (c .move-down .ensures)
-    (closed-down (a .i) (a .n) (start .start .result) (window (now (a .t)) (a .s)) (window (c .move-down .last .0) (a .s)) (start .start .ensures) (omega arith))
+    (closed-down (a .i) (a .n) (start .ring-start .result) (window (now (a .t)) (a .s)) (window (c .move-down .last .0) (a .s)) (start .ring-start .ensures) (omega arith))
 
 pub close-gap-spec : {M : Type 1} → statement M
 close-gap-spec =
@@ -33,9 +33,9 @@ close-gap-spec =
     (tie.spec
     (λ c κs. omega arith)
     (λ c. omega arith)
-    (λ c κs. omega (arith, c .before .before .start .ensures))
-    (λ c. omega (arith, c .before .before .before .before .start .ensures))
+    (λ c κs. omega (arith, c .before .before .ring-start .ensures))
+    (λ c. omega (arith, c .before .before .before .before .ring-start .ensures))
     (λ c κs. omega arith)
-    (λ c κs. omega (arith, c .before .before .start .ensures))
+    (λ c κs. omega (arith, c .before .before .ring-start .ensures))
     returns
     returns-2)

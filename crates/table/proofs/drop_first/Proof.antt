@@ -16,18 +16,18 @@ returns c =
     let b = start .before .before in
     let a = b .args in
     let w = window (now (a .t)) (a .s) in
-    let still = moved-none (start .start .result) (up 0 0) w (λ j _. up-none 0 j) in
+    let still = moved-none (start .ring-start .result) (up 0 0) w (λ j _. up-none 0 j) in
     stored-changed (Without 0 (a .n)) (put .put .ensures) (c .unmark .ensures)
     (λ e p.
     message-without 0 (a .n) w (window (put .put .last .0) (a .s)) (window (c .unmark .last .0) (a .s)) (omega arith)
-    (closed-up 0 (a .n) (start .start .result) w w (window (put .put .last .0) (a .s)) (start .start .ensures) (window-length (now (a .t)) (a .s)) (omega arith) (omega arith) still e) p)
+    (closed-up 0 (a .n) (start .ring-start .result) w w (window (put .put .last .0) (a .s)) (start .ring-start .ensures) (window-length (now (a .t)) (a .s)) (omega arith) (omega arith) still e) p)
 
 pub drop-first-spec : {M : Type 1} → statement M
 drop-first-spec =
     tie.close
     (tie.spec
     (λ c κs. omega arith)
-    (λ c. omega (arith, c .before .start .ensures))
+    (λ c. omega (arith, c .before .ring-start .ensures))
     (λ c κs. omega arith)
     (λ c κs. omega arith)
     returns)

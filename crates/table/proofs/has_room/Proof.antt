@@ -42,7 +42,7 @@ has-room-spec =
     (tie.spec
     (λ c κs. c .pre .0)
     returns
-    (λ c κs. (c .before .before .pre .0, c .before .before .pre .1))
+    (λ c κs. (c .before .before .pre .0, omega (arith, c .before .before .pre .1)))
     (λ c κs. tt)
     returns-2
     returns-3)

@@ -19,15 +19,15 @@ returns c =
     let a = b .args in
     let m : Message = record { label = a .label; sender = a .sender; value = a .value } in
     stored-changed (With (a .n) m) (put .put .ensures) (c .mark .ensures)
-    (message-with (a .n) ((start .start .result + a .n) % 64) m (window (now (a .t)) (a .s)) (window (put .put .last .0) (a .s)) (window (c .mark .last .0) (a .s))
-    (window-length (now (a .t)) (a .s)) (omega arith) (omega arith) (omega arith) (omega arith) (ap (λ (x : ℕ). (x + a .n) % 64) (start .start .ensures)))
+    (message-with (a .n) ((start .ring-start .result + a .n) % 64) m (window (now (a .t)) (a .s)) (window (put .put .last .0) (a .s)) (window (c .mark .last .0) (a .s))
+    (window-length (now (a .t)) (a .s)) (omega arith) (omega arith) (omega arith) (omega arith) (ap (λ (x : ℕ). (x + a .n) % 64) (start .ring-start .ensures)))
 
 pub write-message-spec : {M : Type 1} → statement M
 write-message-spec =
     tie.close
     (tie.spec
     (λ c κs. omega arith)
-    (λ c. omega (arith, c .start .ensures))
+    (λ c. omega (arith, c .ring-start .ensures))
     (λ c. omega arith)
     (λ c. omega arith)
     (λ c. omega arith)

@@ -36,7 +36,7 @@ take-message-spec =
     (tie.spec
     (λ c κs. c .before .pre .1)
     (λ c κs. c .before .before .before .pre .1)
-    (λ c κs. c .before .before .before .before .before .pre .1)
+    (λ c κs. omega (arith, c .before .before .before .before .before .pre .1))
     (λ c κs. let b = c .before .before .before .before .before .before .before in (used-slot _ _ (b .pre .0 .here), b .pre .2))
     (λ c. omega arith)
     gets-requires
