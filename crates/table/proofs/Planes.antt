@@ -10,30 +10,35 @@ use lib.ListN.{length, getD, drop, set, length-drop}
 use lib.Seq.{getD-drop, drop-set-add, drop-set-lt, getD-set-same, getD-set-other}
 use Rattle.planes.proofs.Labels.{label-is}
 use Rattle.machine.specs.State.{Message}
-use Rattle.table.specs.Table.{planeIn, ringIn, messageIn}
-use Rattle.table.specs.Words.{Planed, WithBit, WithoutBit, With, Closed, Without}
+use Rattle.table.specs.Table.{window, planeIn, ringIn, messageIn}
+use Rattle.table.specs.Words.{SlotChanged, SlotStored, Planed, WithBit, WithoutBit, With, Closed, Without}
+use Rattle.table.proofs.Window.{window-length, changed-none, changed-stored}
 use Rattle.table.proofs.Message.{message-same}
 
 -- ---- one plane after another
 
-module _ (R : ℕ → ℕ → ℕ → Type 0) (w : List ℕ) where
-  pub planed-none : Planed 0 R w w
-  planed-none = record { fields = λ k h. refl; changed = λ b h. absurd (omega arith); kept = λ b h l. refl; ring = refl }
-
-  pub planed-more : (n y : ℕ) (u v : List ℕ) → n < 4 → length u ≡ 84 → Planed n R w u → v ≡ set u (16 + n) y → (planeIn u n ≡ planeIn w n → R n (planeIn w n) y) → Planed (n + 1) R w v
-  planed-more n y u v small long p e r =
+module _ (R : ℕ → ℕ → ℕ → Type 0) where
+  planed-more : (w u : List ℕ) (n y : ℕ) → n < 4 → length u ≡ 84 → Planed n R w u → R n (planeIn u n) y → Planed (n + 1) R w (set u (16 + n) y)
+  planed-more w u n y small long p r =
       let here : planeIn (set u (16 + n) y) n ≡ y = rw (drop-set-add) (getD-set-same (drop 16 u) n y 0 (simp length-drop (omega arith))) in
       let other : (b : ℕ) → b ≢ n → planeIn (set u (16 + n) y) b ≡ planeIn u b = λ b ne. rw (drop-set-add) (getD-set-other (drop 16 u) n b y 0 ne) in
-      rw e
-      (record {
+      let first : R n (planeIn w n) y = rw (p .kept n (omega arith) small) at r in
+      record {
         fields = λ k h. getD-set-other u (16 + n) k y 0 (λ q. omega arith) ∙ p .fields k h;
-        changed = λ b h.
-            dite (ℕ-discrete b n)
-            (λ q. rw (q, here) (r (p .kept n (omega arith) small)))
-            (λ ne. rw (other b ne) (p .changed b (omega (arith, ne))));
+        changed = λ b h. dite (ℕ-discrete b n) (λ q. rw (q, here) first) (λ ne. rw (other b ne) (p .changed b (omega (arith, ne))));
         kept = λ b h l. other b (λ q. omega arith) ∙ p .kept b (omega arith) l;
         ring = drop-set-lt 20 u (16 + n) y (omega arith) ∙ p .ring;
-      })
+      }
+
+  module _ (s : ℕ) (t : List ℕ) where
+    pub planes-none : SlotChanged s (Planed 0 R) t t
+    planes-none =
+        changed-none s (Planed 0 R) t (record { fields = λ k h. refl; changed = λ b h. absurd (omega arith); kept = λ b h l. refl; ring = refl })
+
+    pub planes-more : (n y : ℕ) (u v : List ℕ) → n < 4 → SlotChanged s (Planed n R) t u → R n (planeIn (window u s) n) y → SlotStored s (λ w. set w (16 + n) y) u v
+        → SlotChanged s (Planed (n + 1) R) t v
+    planes-more n y u v small p r q =
+        changed-stored (Planed (n + 1) R) p q (λ x h e. rw e (planed-more (window t s) (window u s) n y small (window-length u s) h r))
 
 -- ---- a message more
 

@@ -11,27 +11,38 @@ use lib.Dec.{ltb}
 use lib.ListN.{length, getD, drop, set, length-drop}
 use lib.Seq.{getD-drop, drop-set-add, drop-set-lt, getD-set-same, getD-set-other}
 use Rattle.planes.specs.Planes.{behindGap}
-use Rattle.table.specs.Table.{ringIn}
-use Rattle.table.specs.Words.{Moved, down, up, Closed}
+use Rattle.table.specs.Table.{window, ringIn}
+use Rattle.table.specs.Words.{SlotChanged, SlotStored, Moved, down, up, Closed}
+use Rattle.table.proofs.Window.{window-length, changed-none, changed-stored}
 
-pub moved-none : (start : ℕ) (f : ℕ → ℕ) (w : List ℕ) → ((j : ℕ) → j < 64 → f j ≡ j) → Moved start f w w
-moved-none start f w e = record { fields = λ k h. refl; planes = λ b h. refl; moved = λ j h. rw (e j h) }
+-- ---- one message after another
+
+pub moved-none : (start : ℕ) (f : ℕ → ℕ) (w : List ℕ) → ((j : ℕ) → f j ≡ j) → Moved start f w w
+moved-none start f w e = record { fields = λ k h. refl; planes = λ b h. refl; moved = λ j h. rw (e j) }
 
 -- message `to` gets the word of message `from`
-pub moved-more : (start : ℕ) (f g : ℕ → ℕ) (w u v : List ℕ) (from to : ℕ) → to < 64 → from < 64 → length u ≡ 84 → Moved start f w u
-    → v ≡ set u (20 + (start + to) % 64) (ringIn start u from) → g to ≡ f from → ((j : ℕ) → j ≢ to → g j ≡ f j) → Moved start g w v
-moved-more start f g w u v from to h l long p e here others =
+moved-more : (start : ℕ) (f g : ℕ → ℕ) (w u : List ℕ) (from to : ℕ) → to < 64 → from < 64 → length u ≡ 84 → Moved start f w u
+    → g to ≡ f from → ((j : ℕ) → j ≢ to → g j ≡ f j) → Moved start g w (set u (20 + (start + to) % 64) (ringIn start u from))
+moved-more start f g w u from to h l long p here others =
     let at = (start + to) % 64 in
     let x = ringIn start u from in
-    rw e
-    (record {
+    record {
       fields = λ k a. getD-set-other u (20 + at) k x 0 (λ q. omega arith) ∙ p .fields k a;
       planes = λ b a. getD-drop 16 (set u (20 + at) x) b 0 ∙ getD-set-other u (20 + at) (16 + b) x 0 (λ q. omega arith) ∙ sym (getD-drop 16 u b 0) ∙ p .planes b a;
       moved = λ j a.
           dite (ℕ-discrete j to)
           (λ q. rw (q, here, drop-set-add) (getD-set-same (drop 20 u) at x 0 (simp length-drop (omega arith)) ∙ p .moved from l))
           (λ ne. rw (others j ne, drop-set-add) (getD-set-other (drop 20 u) at ((start + j) % 64) x 0 (λ q. ne (omega arith)) ∙ p .moved j a));
-    })
+    }
+
+module _ (s start : ℕ) (t : List ℕ) (f : ℕ → ℕ) where
+  pub ring-none : ((j : ℕ) → f j ≡ j) → SlotChanged s (Moved start f) t t
+  ring-none e = changed-none s (Moved start f) t (moved-none start f (window t s) e)
+
+  pub ring-more : (g : ℕ → ℕ) (from to : ℕ) (u v : List ℕ) → to < 64 → from < 64 → SlotChanged s (Moved start f) t u
+      → SlotStored s (λ w. set w (20 + (start + to) % 64) (ringIn start w from)) u v → g to ≡ f from → ((j : ℕ) → j ≢ to → g j ≡ f j) → SlotChanged s (Moved start g) t v
+  ring-more g from to u v h l p q here others =
+      changed-stored (Moved start g) p q (λ x m e. rw e (moved-more start f g (window t s) (window u s) from to h l (window-length u s) m here others))
 
 -- ---- down and up, message by message
 

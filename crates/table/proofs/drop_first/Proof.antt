@@ -16,7 +16,7 @@ returns c =
     let b = start .before .before in
     let a = b .args in
     let w = window (now (a .t)) (a .s) in
-    let still = moved-none (start .ring-start .result) (up 0 0) w (λ j _. up-none 0 j) in
+    let still = moved-none (start .ring-start .result) (up 0 0) w (up-none 0) in
     stored-changed (Without 0 (a .n)) (put .put .ensures) (c .unmark .ensures)
     (λ e p.
     message-without 0 (a .n) w (window (put .put .last .0) (a .s)) (window (c .unmark .last .0) (a .s)) (omega arith)
