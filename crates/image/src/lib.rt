@@ -203,8 +203,8 @@ fn mail_in_range(task: &[u8]) -> bool
     let mut counts: [u8; 16] = [0; 16];
     let mut j: usize = 0;
     while j < k {
-        let label = wire::byte_at(mailbox, MESSAGE_SIZE * j) as usize;
-        let sender = wire::byte_at(mailbox, MESSAGE_SIZE * j + 1);
+        let label = wire::byte(mailbox, MESSAGE_SIZE * j) as usize;
+        let sender = wire::byte(mailbox, MESSAGE_SIZE * j + 1);
         if (label <= 15) & (sender <= HOST) {
             let count = counts[label];
             if count < 4 {

@@ -1,6 +1,6 @@
 -- Bit i of what the operations on numbers give: a law for each operation, and numbers known by their bits.
 use Prim.Native.Nat.{ℕ, zero, suc, _+_, _*_, _-_, _/_, _%_, _^_, _<_, min, max}
-use mathlib.Core.Path.{_≡_, refl, sym, _∙_}
+use mathlib.Core.Path.{_≡_, refl, sym, ap, _∙_}
 use mathlib.Core.Bool.{cond}
 use native.Mathlib.Nat.{pow-suc, pow-succ', div-div-eq-div-mul, not-suc-le-zero, mod-lt}
 use native.Mathlib.Omega.{arith}
@@ -18,6 +18,14 @@ bit-half o x = rw (pow-succ', ← div-div-eq-div-mul)
 
 pub bit-lt : (o x : ℕ) → bit o x < 2
 bit-lt o x = mod-lt (x / 2 ^ o) (omega arith)
+
+-- a bit t below the bits of r
+module _ (t r : ℕ) (h : t < 2) where
+  pub bit-below-first : bit 0 (t + 2 * r) ≡ t
+  bit-below-first = bit-first (t + 2 * r) ∙ omega arith
+
+  pub bit-below-rest : (o : ℕ) → bit (suc o) (t + 2 * r) ≡ bit o r
+  bit-below-rest o = let half : (t + 2 * r) / 2 ≡ r = omega arith in bit-half o (t + 2 * r) ∙ ap (bit o) half
 
 -- numbers of n bits are equal where their bits are
 pub bits-ext : (n x y : ℕ) → x < 2 ^ n → y < 2 ^ n → ((o : ℕ) → o < n → bit o x ≡ bit o y) → x ≡ y

@@ -1,5 +1,5 @@
 -- Laws of the label that planes hold: each of its bits is a plane's, and the tests on labels go bit by bit.
-use Prim.Native.Nat.{ℕ, zero, suc, _+_, _*_, _/_, _%_, _^_, _<_, _≤_}
+use Prim.Native.Nat.{ℕ, zero, suc, _+_, _*_, _%_, _^_, _<_, _≤_}
 use mathlib.Core.Path.{_≡_, sym, ap, _∙_}
 use mathlib.Core.Logic.{dite}
 use mathlib.Core.Bool.{Bool, true}
@@ -12,7 +12,7 @@ use lib.Pow.{pow-mono}
 use Rattle.wire.specs.Lists.{each}
 use Rattle.wire.proofs.Lists.{each-intro, each-at, same-tests}
 use Rattle.label.specs.Label.{bit, flows}
-use Rattle.label.proofs.Bits.{bit-first, bit-half, bits-ext, bit-lt}
+use Rattle.label.proofs.Bits.{bit-below-first, bit-below-rest, bits-ext, bit-lt}
 use Rattle.planes.specs.Planes.{labelFrom}
 
 label-lt : (n : ℕ) (plane : ℕ → ℕ) (i : ℕ) → labelFrom n plane i < 2 ^ n
@@ -26,15 +26,9 @@ label-lt (suc n) plane i =
 pub label-bit : (n : ℕ) (plane : ℕ → ℕ) (i b : ℕ) → b < n → bit b (labelFrom n plane i) ≡ bit i (plane b)
 unfolding labelFrom
 label-bit zero plane i b h = absurd (not-suc-le-zero h)
-label-bit (suc n) plane i zero h =
-    let rest = labelFrom n (λ b. plane (suc b)) i in
-    let first = bit-lt i (plane 0) in
-    bit-first (bit i (plane 0) + 2 * rest) ∙ omega arith
+label-bit (suc n) plane i zero h = bit-below-first (bit i (plane 0)) (labelFrom n (λ b. plane (suc b)) i) (bit-lt i (plane 0))
 label-bit (suc n) plane i (suc b) h =
-    let rest = labelFrom n (λ b. plane (suc b)) i in
-    let first = bit-lt i (plane 0) in
-    let half : (bit i (plane 0) + 2 * rest) / 2 ≡ rest = omega arith in
-    bit-half b (bit i (plane 0) + 2 * rest) ∙ ap (bit b) half ∙ label-bit n (λ b. plane (suc b)) i b (omega arith)
+    bit-below-rest (bit i (plane 0)) (labelFrom n (λ b. plane (suc b)) i) (bit-lt i (plane 0)) b ∙ label-bit n (λ b. plane (suc b)) i b (omega arith)
 
 -- a label is known by its bits
 pub label-is : (n : ℕ) (plane : ℕ → ℕ) (i m : ℕ) → m < 2 ^ n → ((b : ℕ) → b < n → bit i (plane b) ≡ bit b m) → labelFrom n plane i ≡ m

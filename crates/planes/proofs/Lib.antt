@@ -3,3 +3,4 @@ pub mod Words
 pub mod Tests
 pub mod Sets
 pub mod Labels
+pub mod Gathered

@@ -1,11 +1,12 @@
 // Words with a bit for each of 64 messages: sets of messages, and planes, which hold the labels.
-ghost use Prim.Native.Nat.{_-_, _<_, _≤_, _^_};
+ghost use Prim.Native.Nat.{_+_, _*_, _-_, _<_, _≤_, _^_};
 ghost use mathlib.Core.Path.{_≡_};
 ghost use mathlib.Core.Bool.{cond};
+ghost use mathlib.Core.List.{[]};
 ghost use lib.Dec.{eqb, leb};
 ghost use lib.Count.{ones};
 ghost use Rattle.label.specs.Label.{bit};
-ghost use Rattle.planes.specs.Planes.{Bits, behindGap};
+ghost use Rattle.planes.specs.Planes.{Bits, behindGap, Fits, ahead, planesOf};
 
 // ---- sets
 
@@ -78,4 +79,46 @@ pub fn without_bit(plane: u64, k: usize) -> u64
     let one: u64 = 1 << k;
     let low = one - 1;
     (plane & low) | ((plane >> 1) & !low)
+}
+
+// ---- the four planes of labels that are gathered from the last to the first
+
+pub struct LabelPlanes {
+    pub first: u64,
+    pub second: u64,
+    pub third: u64,
+    pub fourth: u64,
+}
+
+// The planes of no labels.
+pub fn no_labels() -> LabelPlanes
+    ensures { λ r. ⌜ r ≡ planesOf [] ⌝ }
+{
+    LabelPlanes {
+        first: 0,
+        second: 0,
+        third: 0,
+        fourth: 0,
+    }
+}
+
+// Plane b with the label's bit ahead of its own, which go up by one place.
+fn bit_ahead(plane: u64, label: u8, b: usize) -> u64
+    requires { ⌜ (plane < 2 ^ 63) × (b < 4) ⌝ }
+    ensures { λ r. ⌜ r ≡ bit b label + 2 * plane ⌝ }
+{
+    plane * 2 + (((label as u64) >> b) % 2)
+}
+
+// The planes with a label ahead of theirs. It goes through all four at once, so that they stay in registers.
+pub fn ahead(planes: LabelPlanes, label: u8) -> LabelPlanes
+    requires { ⌜ Fits 63 planes ⌝ }
+    ensures { λ r. ⌜ r ≡ ahead label planes ⌝ }
+{
+    LabelPlanes {
+        first: bit_ahead(planes.first, label, 0),
+        second: bit_ahead(planes.second, label, 1),
+        third: bit_ahead(planes.third, label, 2),
+        fourth: bit_ahead(planes.fourth, label, 3),
+    }
 }

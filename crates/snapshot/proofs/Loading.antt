@@ -5,12 +5,14 @@ use mathlib.Core.List.{List, [], _++_, append-nil}
 use native.Mathlib.Numerals.{add-one}
 use native.Mathlib.Omega.{arith}
 use borrow.Author.Tests.{ne-eqb}
-use lib.ListN.{length, getD, take, drop, set, length-append, length-drop}
-use lib.Seq.{take-all, getD-drop, drop-drop, drop-cons, set-at, getD-set-same, append-snoc}
+use lib.ListN.{length, getD, take, drop, set, length-set, length-drop, drop-of-length-le}
+use lib.Seq.{take-all, getD-drop, drop-drop, drop-cons, set-at, getD-at, getD-set-same, append-snoc}
 use Rattle.wire.specs.Lists.{Bytes}
 use Rattle.wire.specs.Numbers.{decodeNumber}
 use Rattle.wire.proofs.Lists.{every-at, every-weaken}
 use Rattle.wire.proofs.Output.{copy-next}
+use Rattle.planes.specs.Planes.{labelFrom, planeOf, ahead, planesOf}
+use Rattle.planes.proofs.Gathered.{label-gathered}
 use Rattle.instruction.specs.Program.{count}
 use Rattle.machine.specs.Valid.{ValidTask}
 use Rattle.machine.proofs.Rules.{MessageFacts, MailboxFacts, task-facts}
@@ -25,9 +27,9 @@ use Rattle.image.proofs.Slots.{length-slotsOf, slot-at}
 use Rattle.image.proofs.Image.{accepted-valid, record-accepted}
 use Rattle.image.proofs.Records.{slot-some, task-length}
 use Rattle.table.specs.Table.{held}
-use Rattle.table.specs.Change.{noMessage, taskAt, Used, changeSlot, change, withMessage, newTask}
-use Rattle.table.proofs.Change.{change-none, change-set, change-at, change-change}
-use Rattle.snapshot.specs.Loading.{LabelsFit, Loadable, LoadableSlots, registersSet, messagesAdded}
+use Rattle.table.specs.Change.{noMessage, taskAt, Used, changeSlot, change, withMail, Opened, newTask}
+use Rattle.table.proofs.Change.{change-same, change-none, change-set, change-at, change-change}
+use Rattle.snapshot.specs.Loading.{LabelsFit, Loadable, LoadableSlots, registersSet, mailSet, messagesOf, labelsOf}
 
 -- what is lent from index k on
 pub from-on : (k : ℕ) (xs : List ℕ) → take (length xs - k) (drop k xs) ≡ drop k xs
@@ -44,94 +46,140 @@ pub registers-next : (s k x : ℕ) (b : List ℕ) (ss : List Slot) → x ≡ dec
 unfolding registersSet
 registers-next s k x b ss e = rw (add-one, e) (change-change s (registersSet k b) (withRegister k (decodeNumber 4 (drop (4 * k) b))) ss)
 
-pub messages-none : (s : ℕ) (b : List ℕ) (ss : List Slot) → ss ≡ change s (messagesAdded 0 b) ss
-unfolding messagesAdded
-messages-none s b ss = sym (change-none ss s (messagesAdded 0 b) (λ t e. refl))
+pub mail-none : (s : ℕ) (b : List ℕ) (ss : List Slot) → ss ≡ change s (mailSet 0 b) ss
+unfolding mailSet
+mail-none s b ss = sym (change-none ss s (mailSet 0 b) (λ t e. refl))
 
-pub messages-next : (s k : ℕ) (m : Message) (b : List ℕ) (ss : List Slot) → m ≡ messageOf (drop (6 * k) b)
-    → change s (withMessage m) (change s (messagesAdded k b) ss) ≡ change s (messagesAdded (k + 1) b) ss
-unfolding messagesAdded
-messages-next s k m b ss e = rw (add-one, e) (change-change s (messagesAdded k b) (withMessage (messageOf (drop (6 * k) b))) ss)
+pub mail-next : (s k sender value : ℕ) (b : List ℕ) (ss : List Slot) → sender ≡ messageOf (drop (6 * k) b) .sender → value ≡ messageOf (drop (6 * k) b) .value
+    → change s (withMail k sender value) (change s (mailSet k b) ss) ≡ change s (mailSet (k + 1) b) ss
+unfolding mailSet
+mail-next s k sender value b ss e f =
+    rw (add-one, e, f) (change-change s (mailSet k b) (withMail k (messageOf (drop (6 * k) b) .sender) (messageOf (drop (6 * k) b) .value)) ss)
+
+-- a mailbox stays as long as it is
+pub mail-length : (k : ℕ) (b : List ℕ) (t : Task) → length (mailSet k b t .mailbox) ≡ length (t .mailbox)
+unfolding mailSet
+mail-length zero b t = refl
+mail-length (suc k) b t = rw length-set (mail-length k b t)
 
 -- message i by its bytes
-pub message-at : (i : ℕ) (b : List ℕ) {label sender value : ℕ} → label ≡ getD b (6 * i) 0 → sender ≡ getD b (6 * i + 1) 0 → value ≡ decodeNumber 4 (drop (6 * i + 2) b)
-    → record { label = label; sender = sender; value = value } ≡ messageOf (drop (6 * i) b)
-message-at i b l s v =
-    let first : 6 * i + 0 ≡ 6 * i = omega arith in
-    rw (l, s, v, getD-drop (6 * i) b 0 0, getD-drop (6 * i) b 1 0, drop-drop 2 (6 * i) b, first)
+pub sender-at : (i : ℕ) (b : List ℕ) → getD b (6 * i + 1) 0 ≡ messageOf (drop (6 * i) b) .sender
+sender-at i b = sym (getD-drop (6 * i) b 1 0)
+
+pub value-at : (i : ℕ) (b : List ℕ) → decodeNumber 4 (drop (6 * i + 2) b) ≡ messageOf (drop (6 * i) b) .value
+value-at i b = ap (decodeNumber 4) (sym (drop-drop 2 (6 * i) b))
+
+label-at : (i : ℕ) (b : List ℕ) → getD b (6 * i) 0 ≡ messageOf (drop (6 * i) b) .label
+label-at i b = let first : 6 * i + 0 ≡ 6 * i = omega arith in rw (getD-drop (6 * i) b 0 0, first)
+
+-- ---- the labels of the messages
+
+module _ (b : List ℕ) where
+  length-labels : length (labelsOf b) ≡ length b / 6
+  length-labels = length-decode 6 (λ m. messageOf m .label) (length b / 6) b
+
+  label-of : (i : ℕ) → i < length b / 6 → getD (labelsOf b) i 0 ≡ messageOf (drop (6 * i) b) .label
+  label-of i h = getD-decode 6 (λ m. messageOf m .label) (length b / 6) i b 0 h
+
+  pub labels-none : planesOf [] ≡ planesOf (drop (length b / 6) (labelsOf b))
+  labels-none = ap planesOf (sym (drop-of-length-le (labelsOf b) {i = length b / 6} (omega (arith, length-labels))))
+
+  -- a label is put ahead of those behind it
+  pub labels-next : (i : ℕ) → i < length b / 6 → ahead (getD b (6 * i) 0) (planesOf (drop (i + 1) (labelsOf b))) ≡ planesOf (drop i (labelsOf b))
+  unfolding planesOf
+  labels-next i h =
+      let ls = labelsOf b in
+      ap (λ (l : ℕ). ahead l (planesOf (drop (i + 1) ls))) (label-at i b ∙ sym (label-of i h))
+      ∙ rw (add-one i) (ap planesOf (sym (drop-cons ls i 0 (omega (arith, length-labels)))))
+
+  -- no more are behind than there is room for
+  pub labels-left : (i n : ℕ) → length b / 6 ≤ n + i → length (drop i (labelsOf b)) ≤ n
+  labels-left i n h = rw length-drop (omega (arith, length-labels))
 
 -- ---- the task of a record
+
+-- item k is stored behind those before it
+item-stored : {A : Type 0} (w : ℕ) (f : List ℕ → A) (k : ℕ) (b : List ℕ) (xs : List A) (d : A) → k < length xs
+    → set (decodeItems w f k b ++ drop k xs) k (f (drop (w * k) b)) ≡ decodeItems w f (suc k) b ++ drop (suc k) xs
+item-stored w f k b xs d h =
+    let front = decodeItems w f k b in
+    let x = f (drop (w * k) b) in
+    let behind = drop (suc k) xs in
+    rw (drop-cons xs k d h, set-at front (getD xs k d) behind x k (length-decode w f k b))
+    (sym (append-snoc front x behind) ∙ ap (λ ys. ys ++ behind) (sym (decode-more w f k b)))
 
 registers-are : (k : ℕ) (b : List ℕ) (t : Task) → k ≤ length (t .registers)
     → registersSet k b t ≡ withRegisters (decodeItems 4 (decodeNumber 4) k b ++ drop k (t .registers)) t
 unfolding registersSet decodeItems
 registers-are zero b t h = refl
 registers-are (suc k) b t h =
-    let x = decodeNumber 4 (drop (4 * k) b) in
-    let front = decodeItems 4 (decodeNumber 4) k b in
-    let behind = drop (suc k) (t .registers) in
-    let stored : set (front ++ drop k (t .registers)) k x ≡ decodeItems 4 (decodeNumber 4) (suc k) b ++ behind
-    = rw (drop-cons (t .registers) k 0 h, set-at front (getD (t .registers) k 0) behind x k (length-decode 4 (decodeNumber 4) k b))
-    (sym (append-snoc front x behind) ∙ ap (λ (xs : List ℕ). xs ++ behind) (sym (decode-more 4 (decodeNumber 4) k b))) in
-    ap (withRegister k x) (registers-are k b t (omega arith)) ∙ ap (λ (rs : List ℕ). withRegisters rs t) stored
+    ap (withRegister k (decodeNumber 4 (drop (4 * k) b))) (registers-are k b t (omega arith))
+    ∙ ap (λ (rs : List ℕ). withRegisters rs t) (item-stored 4 (decodeNumber 4) k b (t .registers) 0 h)
 
-messages-are : (k : ℕ) (b : List ℕ) (t : Task) → t .mailbox ≡ [] → messagesAdded k b t ≡ withMailbox (decodeItems 6 messageOf k b) t
-unfolding messagesAdded decodeItems
-messages-are zero b t e = λ i. record { kind = t .kind; label = t .label; spare = t .spare; pc = t .pc; registers = t .registers; mailbox = e i }
-messages-are (suc k) b t e =
+-- the messages have the labels that b has
+abbrev Labelled : List ℕ → List Message → Type 0
+Labelled b ms = (i : ℕ) → i < length ms → getD ms i noMessage .label ≡ messageOf (drop (6 * i) b) .label
+
+mail-are : (k : ℕ) (b : List ℕ) (t : Task) → k ≤ length (t .mailbox) → Labelled b (t .mailbox)
+    → mailSet k b t ≡ withMailbox (decodeItems 6 messageOf k b ++ drop k (t .mailbox)) t
+unfolding mailSet decodeItems
+mail-are zero b t h e = refl
+mail-are (suc k) b t h e =
     let m = messageOf (drop (6 * k) b) in
-    ap (withMessage m) (messages-are k b t e) ∙ ap (λ (ms : List Message). withMailbox ms t) (sym (decode-more 6 messageOf k b))
+    let ms = t .mailbox in
+    let front = decodeItems 6 messageOf k b in
+    let label : getD (front ++ drop k ms) k noMessage .label ≡ m .label
+    = rw (drop-cons ms k noMessage h, getD-at front (getD ms k noMessage) (drop (suc k) ms) noMessage k (length-decode 6 messageOf k b)) (e k h) in
+    ap (withMail k (m .sender) (m .value)) (mail-are k b t (omega arith) e)
+    ∙ ap (λ (l : ℕ). withMailbox (set (front ++ drop k ms) k (record { label = l; sender = m .sender; value = m .value })) t) label
+    ∙ ap (λ (xs : List Message). withMailbox xs t) (item-stored 6 messageOf k b ms noMessage h)
 
--- registers that are set leave the mailbox, and messages that are added are so many more
-registers-mailbox : (k : ℕ) (b : List ℕ) (t : Task) → registersSet k b t .mailbox ≡ t .mailbox
-unfolding registersSet
-registers-mailbox zero b t = refl
-registers-mailbox (suc k) b t = registers-mailbox k b t
+-- as many messages are there as were opened
+pub opened-length : {s n : ℕ} {label : ℕ → ℕ} {ss ss′ : List Slot} → Used s ss → Opened s n label ss ss′ → length (taskAt ss′ s .mailbox) ≡ n
+opened-length {s} {n} {label} {ss} here o =
+    let x : slotAt (change s (withMailbox (o .messages)) ss) s ≡ used (withMailbox (o .messages) (taskAt ss s))
+    = change-at s (withMailbox (o .messages)) ss ∙ ap (changeSlot (withMailbox (o .messages))) here in
+    rw (o .slots, x) (o .many)
 
-messages-length : (k : ℕ) (b : List ℕ) (t : Task) → length (messagesAdded k b t .mailbox) ≡ length (t .mailbox) + k
-unfolding messagesAdded
-messages-length zero b t = omega arith
-messages-length (suc k) b t =
-    let ih = messages-length k b t in
-    rw length-append (omega (arith, ih))
-
--- a used slot stays so, and its mailbox has those messages
-pub messages-here : (s k : ℕ) (b : List ℕ) (ss : List Slot) → Used s ss
-    → Used s (change s (messagesAdded k b) ss) × (length (taskAt (change s (messagesAdded k b) ss) s .mailbox) ≡ length (taskAt ss s .mailbox) + k)
-messages-here s k b ss here =
-    let x : slotAt (change s (messagesAdded k b) ss) s ≡ used (messagesAdded k b (taskAt ss s)) = change-at s (messagesAdded k b) ss ∙ ap (changeSlot (messagesAdded k b)) here in
-    rw x (refl, messages-length k b (taskAt ss s))
+-- a mailbox that was opened with the labels of b, and then has its senders and values
+pub mailbox-loaded : (s : ℕ) (b : List ℕ) (ss ss′ : List Slot) → LabelsFit b → Opened s (length b / 6) (labelFrom 4 (planeOf (planesOf (labelsOf b)))) ss ss′
+    → change s (mailSet (length b / 6) b) ss′ ≡ change s (withMailbox (messagesOf b)) ss
+mailbox-loaded s b ss ss′ fit o =
+    let n = length b / 6 in
+    let ms = o .messages in
+    let fits : (i : ℕ) → i < n → getD (labelsOf b) i 0 ≤ 15 = λ i h. rw (label-of b i h, ← label-at i b) (fit i h) in
+    let labelled : Labelled b ms
+    = λ i h. let l : i < n = omega (arith, o .many) in o .labels i l ∙ label-gathered (labelsOf b) i (omega (arith, length-labels b)) (fits i l) ∙ label-of b i l in
+    let all : decodeItems 6 messageOf n b ++ drop n ms ≡ messagesOf b = rw (drop-of-length-le ms {i = n} (omega (arith, o .many))) (append-nil (messagesOf b)) in
+    ap (change s (mailSet n b)) (o .slots) ∙ change-change s (withMailbox ms) (mailSet n b) ss
+    ∙ change-same ss s (λ t. mailSet n b (withMailbox ms t)) (withMailbox (messagesOf b))
+    (λ t e. mail-are n b (withMailbox ms t) (omega (arith, o .many)) labelled ∙ ap (λ (xs : List Message). withMailbox xs t) all)
 
 module _ (r : List ℕ) (ok : Loadable r) where
   -- the task as it is put, with registers 0 and no messages
   abbrev new : Task
   new = newTask (getD r 0 0) (getD r 1 0) (getD r 2 0) (decodeNumber 2 (drop 3 r))
 
-  abbrev addMessages : Task → Task
-  addMessages = messagesAdded (length (drop 37 r) / 6) (drop 37 r)
-
-  task-is : addMessages (registersSet 8 (drop 5 r) new) ≡ taskOf r
+  task-is : withMailbox (messagesOf (drop 37 r)) (registersSet 8 (drop 5 r) new) ≡ taskOf r
   task-is =
       let rs = decodeItems 4 (decodeNumber 4) 8 (drop 5 r) in
-      let registers : registersSet 8 (drop 5 r) new ≡ withRegisters rs new
-      = registers-are 8 (drop 5 r) new (omega arith) ∙ ap (λ (xs : List ℕ). withRegisters xs new) (append-nil rs) in
-      ap addMessages registers ∙ messages-are (length (drop 37 r) / 6) (drop 37 r) (withRegisters rs new) refl
+      ap (withMailbox (messagesOf (drop 37 r))) (registers-are 8 (drop 5 r) new (omega arith) ∙ ap (λ (xs : List ℕ). withRegisters xs new) (append-nil rs))
 
   new-held : held new ≡ used new
   new-held = rw (ne-eqb (getD r 0 0) 0 (λ e. omega (arith, ok .kind)))
 
-  -- the new task with its registers is there, and has no messages
-  pub registers-here : (s : ℕ) (ss : List Slot) → s < length ss
-      → let after = change s (registersSet 8 (drop 5 r)) (set ss s (held new)) in Used s after × (length (taskAt after s .mailbox) ≡ 0)
+  -- the new task with its registers is there
+  pub registers-here : (s : ℕ) (ss : List Slot) → s < length ss → Used s (change s (registersSet 8 (drop 5 r)) (set ss s (held new)))
   registers-here s ss l =
       let x : slotAt (change s (registersSet 8 (drop 5 r)) (set ss s (held new))) s ≡ used (registersSet 8 (drop 5 r) new)
       = change-at s (registersSet 8 (drop 5 r)) (set ss s (held new)) ∙ ap (changeSlot (registersSet 8 (drop 5 r))) (getD-set-same ss s (held new) unused l ∙ new-held) in
-      rw x (refl, ap length (registers-mailbox 8 (drop 5 r) new))
+      rw x
 
   -- a new task, its registers and its messages
-  pub task-loaded : (s : ℕ) (ss : List Slot) → change s addMessages (change s (registersSet 8 (drop 5 r)) (set ss s (held new))) ≡ set ss s (used (taskOf r))
+  pub task-loaded : (s : ℕ) (ss : List Slot)
+      → change s (withMailbox (messagesOf (drop 37 r))) (change s (registersSet 8 (drop 5 r)) (set ss s (held new))) ≡ set ss s (used (taskOf r))
   task-loaded s ss =
-      rw (new-held, change-set s (registersSet 8 (drop 5 r)) ss (used new), change-set s addMessages ss (used (registersSet 8 (drop 5 r) new)), task-is)
+      rw (new-held, change-set s (registersSet 8 (drop 5 r)) ss (used new), change-set s (withMailbox (messagesOf (drop 37 r))) ss (used (registersSet 8 (drop 5 r) new)), task-is)
 
 -- ---- the slots
 

@@ -3,22 +3,30 @@ use Prim.Native.Nat.{ℕ, zero, suc, _*_, _/_, _<_, _≤_}
 use mathlib.Core.List.{List}
 use lib.ListN.{length, getD, drop}
 use Rattle.wire.specs.Numbers.{decodeNumber}
+use Rattle.wire.specs.Items.{decodeItems}
 use Rattle.machine.specs.Limits.{highestLabel}
-use Rattle.machine.specs.State.{Task, withRegister}
+use Rattle.machine.specs.State.{Message, Task, withRegister}
 use Rattle.image.specs.Record.{kindAt, mailboxAt, messageSize, messageOf}
 use Rattle.image.specs.Image.{recordOf, skip}
 use Rattle.table.specs.Table.{mailboxRoom}
-use Rattle.table.specs.Change.{withMessage}
+use Rattle.table.specs.Change.{withMail}
 
 -- registers 0 to k - 1 as b has them, one set after another
 unfoldable pub registersSet : ℕ → List ℕ → Task → Task
 registersSet zero b t = t
 registersSet (suc k) b t = withRegister k (decodeNumber 4 (drop (4 * k) b)) (registersSet k b t)
 
--- the first k messages of b, one added after another
-unfoldable pub messagesAdded : ℕ → List ℕ → Task → Task
-messagesAdded zero b t = t
-messagesAdded (suc k) b t = withMessage (messageOf (drop (messageSize * k) b)) (messagesAdded k b t)
+-- messages 0 to k - 1 with the senders and values that b has, one set after another
+unfoldable pub mailSet : ℕ → List ℕ → Task → Task
+mailSet zero b t = t
+mailSet (suc k) b t = withMail k (messageOf (drop (messageSize * k) b) .sender) (messageOf (drop (messageSize * k) b) .value) (mailSet k b t)
+
+-- the messages of b, and their labels
+abbrev pub messagesOf : List ℕ → List Message
+messagesOf b = decodeItems messageSize messageOf (length b / messageSize) b
+
+abbrev pub labelsOf : List ℕ → List ℕ
+labelsOf b = decodeItems messageSize (λ m. messageOf m .label) (length b / messageSize) b
 
 -- the labels of the messages of b are labels
 abbrev pub LabelsFit : List ℕ → Type 0

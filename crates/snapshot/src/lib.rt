@@ -8,14 +8,15 @@ ghost use Rattle.wire.specs.Items.{encodeItems};
 ghost use Rattle.wire.specs.Output.{overwrite};
 ghost use Rattle.wire.specs.Inner.{written};
 ghost use Rattle.label.specs.Label.{flows};
-ghost use Rattle.machine.specs.State.{used, slotAt};
+ghost use Rattle.planes.specs.Planes.{planesOf};
+ghost use Rattle.machine.specs.State.{used, slotAt, withMailbox};
 ghost use Rattle.machine.specs.View.{viewTask};
 ghost use Rattle.image.specs.Record.{taskOf, slotOf, messageBytes, messageSize};
 ghost use Rattle.image.specs.Image.{slotsOf, stateOf};
 ghost use Rattle.image.specs.Refusal.{imageNumber};
 ghost use Rattle.table.specs.Table.{mailboxRoom, slotsIn};
 ghost use Rattle.table.specs.Change.{taskAt, Used, messageAt, change};
-ghost use Rattle.snapshot.specs.Loading.{LabelsFit, Loadable, LoadableSlot, LoadableSlots, registersSet, messagesAdded};
+ghost use Rattle.snapshot.specs.Loading.{LabelsFit, Loadable, LoadableSlot, LoadableSlots, registersSet, mailSet, messagesOf, labelsOf};
 ghost use Rattle.snapshot.specs.Writing.{snapshotBytes, headBytes, shownSlot, shownTask, shownMessage, isShown};
 
 // ---- load
@@ -33,27 +34,44 @@ fn load_registers(table: &mut table::Table, slot: usize, registers: &[u8])
     }
 }
 
-// Adds the messages to the mailbox of the task in a slot.
-fn load_mailbox(table: &mut table::Table, slot: usize, mailbox: &[u8])
-    requires { ⌜ Used slot (slotsIn (now table))
-        × (length (taskAt (slotsIn (now table)) slot .mailbox) + length (now mailbox) / messageSize ≤ mailboxRoom) × LabelsFit (now mailbox) ⌝ }
+// The labels of the messages, from the last to the first.
+fn labels(mailbox: &[u8]) -> planes::LabelPlanes
+    requires { ⌜ length (now mailbox) / messageSize ≤ mailboxRoom ⌝ }
+    ensures { λ r. ⌜ r ≡ planesOf (labelsOf (now (mailbox .entry))) ⌝ }
+{
+    let mut gathered = planes::no_labels();
+    let mut i = mailbox.len() / image::MESSAGE_SIZE;
+    while i > 0 {
+        i -= 1;
+        gathered = planes::ahead(gathered, wire::byte(mailbox, image::MESSAGE_SIZE * i));
+    }
+    gathered
+}
+
+// Sets the senders and the values of the messages in a slot.
+fn load_mail(table: &mut table::Table, slot: usize, mailbox: &[u8])
+    requires { ⌜ length (now mailbox) / messageSize ≤ length (taskAt (slotsIn (now table)) slot .mailbox) ⌝ }
     ensures { λ _. ⌜ slotsIn (now (table .exit))
-        ≡ change slot (messagesAdded (length (now (mailbox .entry)) / messageSize) (now (mailbox .entry))) (slotsIn (now (table .entry))) ⌝ }
+        ≡ change slot (mailSet (length (now (mailbox .entry)) / messageSize) (now (mailbox .entry))) (slotsIn (now (table .entry))) ⌝ }
 {
     let count = mailbox.len() / image::MESSAGE_SIZE;
     let mut i: usize = 0;
     while i < count {
         let at = image::MESSAGE_SIZE * i;
         let value = wire::decode_u32(&mailbox[at + 2..]);
-        table::append(
-            table,
-            slot,
-            wire::byte(mailbox, at),
-            wire::byte(mailbox, at + 1),
-            value,
-        );
+        table::set_mail(table, slot, i, wire::byte(mailbox, at + 1), value);
         i += 1;
     }
+}
+
+// The task in a slot gets the messages as its mailbox. Labels go ahead of the rest, so that each plane is stored once.
+fn load_mailbox(table: &mut table::Table, slot: usize, mailbox: &[u8])
+    requires { ⌜ Used slot (slotsIn (now table)) × (length (now mailbox) / messageSize ≤ mailboxRoom) × LabelsFit (now mailbox) ⌝ }
+    ensures { λ _. ⌜ slotsIn (now (table .exit)) ≡ change slot (withMailbox (messagesOf (now (mailbox .entry)))) (slotsIn (now (table .entry))) ⌝ }
+{
+    let count = mailbox.len() / image::MESSAGE_SIZE;
+    table::open_mailbox(table, slot, count, labels(mailbox));
+    load_mail(table, slot, mailbox);
 }
 
 // Puts the task of a record into a slot.

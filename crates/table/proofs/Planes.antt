@@ -11,7 +11,7 @@ use lib.Seq.{getD-drop, drop-set-add, drop-set-lt, getD-set-same, getD-set-other
 use Rattle.planes.proofs.Labels.{label-is}
 use Rattle.machine.specs.State.{Message}
 use Rattle.table.specs.Table.{window, planeIn, ringIn, messageIn}
-use Rattle.table.specs.Words.{SlotChanged, SlotStored, Planed, WithBit, WithoutBit, With, Closed, Without}
+use Rattle.table.specs.Words.{SlotChanged, SlotStored, Planed, Mailed, WithBit, WithoutBit, With, Closed, Without}
 use Rattle.table.proofs.Window.{window-length, changed-none, changed-stored}
 use Rattle.table.proofs.Message.{message-same}
 
@@ -42,41 +42,20 @@ module _ (R : ℕ → ℕ → ℕ → Type 0) where
 
 -- ---- a message more
 
-module _ (n at : ℕ) (m : Message) (w w₁ u : List ℕ) (long : length w ≡ 84) (room : n < 64) (label : m .label ≤ 15) (sender : m .sender < 256) (value : m .value < 4294967296)
-    (placed : at ≡ (getD w 13 0 % 64 + n) % 64) (stored : w₁ ≡ set w (20 + at) (m .sender * 4294967296 + m .value)) (p : Planed 4 (WithBit n (m .label)) w₁ u) where
-  abbrev word : ℕ
-  word = m .sender * 4294967296 + m .value
-
-  field : (k : ℕ) → k < 16 → getD u k 0 ≡ getD w k 0
-  field k h = p .fields k h ∙ ap (λ (v : List ℕ). getD v k 0) stored ∙ getD-set-other w (20 + at) k word 0 (λ e. omega arith)
-
-  plane : (b : ℕ) → b < 4 → planeIn w₁ b ≡ planeIn w b
-  plane b h =
-      ap (λ (v : List ℕ). planeIn v b) stored ∙ getD-drop 16 (set w (20 + at) word) b 0 ∙ getD-set-other w (20 + at) (16 + b) word 0 (λ e. omega arith)
-      ∙ sym (getD-drop 16 w b 0)
-
-  ring-set : drop 20 u ≡ set (drop 20 w) at word
-  ring-set = p .ring ∙ ap (drop 20) stored ∙ drop-set-add 20 w at word
-
-  old : (i : ℕ) → i < n → ringIn (getD u 13 0) u i ≡ ringIn (getD w 13 0) w i
-  old i h =
-      rw (field 13 (omega arith), ring-set) (getD-set-other (drop 20 w) at ((getD w 13 0 + i) % 64) word 0 (λ e. omega arith))
-
-  new : ringIn (getD u 13 0) u n ≡ word
-  new =
-      let here : (getD w 13 0 + n) % 64 ≡ at = omega arith in
-      rw (field 13 (omega arith), ring-set, here) (getD-set-same (drop 20 w) at word 0 (simp length-drop (omega arith)))
-
-  pub message-with : With n m w u
-  unfolding messageIn
-  message-with =
-      let s : word / 4294967296 % 256 ≡ m .sender = omega arith in
-      let v : word % 4294967296 ≡ m .value = omega arith in
-      record {
-        fields = field;
-        before = λ i h. message-same w u i i (λ b l. p .changed b l i (omega arith) ∙ rw (ne-eqb i n (λ e. omega arith), plane b l)) (old i h);
-        last = rw (label-is 4 (planeIn u) n (m .label) (omega arith) (λ b l. p .changed b l n room ∙ rw (eq-eqb n n refl)), new, s, v);
-      }
+pub message-with : (n : ℕ) (m : Message) (w w₁ u : List ℕ) → n < 64 → m .label ≤ 15 → m .sender < 256 → m .value < 4294967296
+    → Mailed n (m .sender * 4294967296 + m .value) w w₁ → Planed 4 (WithBit n (m .label)) w₁ u → With n m w u
+unfolding messageIn
+message-with n m w w₁ u room label sender value q p =
+    let s : (m .sender * 4294967296 + m .value) / 4294967296 % 256 ≡ m .sender = omega arith in
+    let v : (m .sender * 4294967296 + m .value) % 4294967296 ≡ m .value = omega arith in
+    let ring : (j : ℕ) → ringIn (getD u 13 0) u j ≡ ringIn (getD w₁ 13 0) w₁ j = λ j. rw (p .fields 13 (omega arith), p .ring) in
+    record {
+      fields = λ k h. p .fields k h ∙ q .fields k h;
+      before = λ i h.
+          message-same w u i i (λ b l. p .changed b l i (omega arith) ∙ rw (ne-eqb i n (λ e. omega arith), q .planes b l))
+          (ring i ∙ q .others i (omega arith) (λ e. omega arith));
+      last = rw (label-is 4 (planeIn u) n (m .label) (omega arith) (λ b l. p .changed b l n room ∙ rw (eq-eqb n n refl)), ring n, q .mail, s, v);
+    }
 
 -- ---- a message less
 

@@ -11,9 +11,31 @@ use lib.Dec.{ltb}
 use lib.ListN.{length, getD, drop, set, length-drop}
 use lib.Seq.{getD-drop, drop-set-add, drop-set-lt, getD-set-same, getD-set-other}
 use Rattle.planes.specs.Planes.{behindGap}
-use Rattle.table.specs.Table.{window, ringIn}
-use Rattle.table.specs.Words.{SlotChanged, SlotStored, Moved, down, up, Closed}
+use Rattle.table.specs.Table.{window, planeIn, ringIn}
+use Rattle.table.specs.Words.{SlotChanged, SlotStored, Moved, Mailed, down, up, Closed}
 use Rattle.table.proofs.Window.{window-length, changed-none, changed-stored}
+
+-- ---- a word of the ring is stored
+
+module _ (at x : ℕ) (w : List ℕ) where
+  ring-fields : (k : ℕ) → k < 16 → getD (set w (20 + at) x) k 0 ≡ getD w k 0
+  ring-fields k h = getD-set-other w (20 + at) k x 0 (λ q. omega arith)
+
+  ring-planes : (b : ℕ) → b < 4 → planeIn (set w (20 + at) x) b ≡ planeIn w b
+  ring-planes b h = getD-drop 16 (set w (20 + at) x) b 0 ∙ getD-set-other w (20 + at) (16 + b) x 0 (λ q. omega arith) ∙ sym (getD-drop 16 w b 0)
+
+-- it is that of message i
+pub mail-stored : (i at x : ℕ) (w u : List ℕ) → length w ≡ 84 → i < 64 → at ≡ (getD w 13 0 % 64 + i) % 64 → u ≡ set w (20 + at) x → Mailed i x w u
+mail-stored i at x w u long room placed e =
+    let place : (getD w 13 0 + i) % 64 ≡ at = omega arith in
+    let start : getD (set w (20 + at) x) 13 0 ≡ getD w 13 0 = ring-fields at x w 13 (omega arith) in
+    rw e
+    (record {
+      fields = ring-fields at x w;
+      planes = ring-planes at x w;
+      mail = rw (start, drop-set-add, place) (getD-set-same (drop 20 w) at x 0 (simp length-drop (omega arith)));
+      others = λ j h ne. rw (start, drop-set-add) (getD-set-other (drop 20 w) at ((getD w 13 0 + j) % 64) x 0 (λ q. ne (omega arith)));
+    })
 
 -- ---- one message after another
 
@@ -27,8 +49,8 @@ moved-more start f g w u from to h l long p here others =
     let at = (start + to) % 64 in
     let x = ringIn start u from in
     record {
-      fields = λ k a. getD-set-other u (20 + at) k x 0 (λ q. omega arith) ∙ p .fields k a;
-      planes = λ b a. getD-drop 16 (set u (20 + at) x) b 0 ∙ getD-set-other u (20 + at) (16 + b) x 0 (λ q. omega arith) ∙ sym (getD-drop 16 u b 0) ∙ p .planes b a;
+      fields = λ k a. ring-fields at x u k a ∙ p .fields k a;
+      planes = λ b a. ring-planes at x u b a ∙ p .planes b a;
       moved = λ j a.
           dite (ℕ-discrete j to)
           (λ q. rw (q, here, drop-set-add) (getD-set-same (drop 20 u) at x 0 (simp length-drop (omega arith)) ∙ p .moved from l))

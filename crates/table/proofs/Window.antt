@@ -56,6 +56,10 @@ pub changed-as : {s : ℕ} {R : List ℕ → List ℕ → Type 0} {t u : List �
     → (R (window t s) (window u s) → S (window t s) (window u s)) → SlotChanged s S t u
 changed-as S p e = record { here = e (p .here); other = p .other }
 
+pub stored-as : {s : ℕ} {f : List ℕ → List ℕ} {R : List ℕ → List ℕ → Type 0} {t u : List ℕ} → SlotStored s f t u → (window u s ≡ f (window t s) → R (window t s) (window u s))
+    → SlotChanged s R t u
+stored-as p e = record { here = e (p .here); other = p .other }
+
 -- ---- the loop that clears words
 
 pub cleared-none : (t : List ℕ) (s : ℕ) → SlotStored s (cleared 0) t t

@@ -50,6 +50,13 @@ pub record Moved (start : ℕ) (f : ℕ → ℕ) (w u : List ℕ) : Type 0 where
   pub planes : (b : ℕ) → b < 4 → planeIn u b ≡ planeIn w b
   pub moved : (i : ℕ) → i < mailboxRoom → ringIn start u i ≡ ringIn start w (f i)
 
+-- message i has the word x, and the words of the others and those ahead of the ring are kept
+pub record Mailed (i x : ℕ) (w u : List ℕ) : Type 0 where
+  pub fields : (k : ℕ) → k < planesWord → getD u k 0 ≡ getD w k 0
+  pub planes : (b : ℕ) → b < 4 → planeIn u b ≡ planeIn w b
+  pub mail : ringIn (getD u startWord 0) u i ≡ x
+  pub others : (j : ℕ) → j < mailboxRoom → j ≢ i → ringIn (getD u startWord 0) u j ≡ ringIn (getD w startWord 0) w j
+
 -- those behind message i, up to message k, have moved down by one
 abbrev pub down : ℕ → ℕ → ℕ → ℕ
 down i k j = cond (ltb j i) j (cond (ltb (suc j) k) (suc j) j)

@@ -1,7 +1,7 @@
 // The working storage of a call: sixteen slots of 84 words each, lent to the call and touched by slot and field only.
 // Nothing is tested here that a caller knows: that a slot is one of the sixteen or is used, a register one of the eight, a
 // message in the mailbox, and a label one of four bits.
-ghost use Prim.Native.Nat.{_+_, _<_, _≤_, _%_};
+ghost use Prim.Native.Nat.{_+_, _*_, _<_, _≤_, _%_};
 ghost use mathlib.Core.Path.{_≡_};
 ghost use mathlib.Core.Bool.{cond};
 ghost use lib.Dec.{eqb};
@@ -9,13 +9,13 @@ ghost use lib.ListN.{length, getD, set};
 ghost use Rattle.wire.specs.Lists.{keep};
 ghost use Rattle.wire.specs.Inner.{firstIndex};
 ghost use Rattle.label.specs.Label.{bit, flows};
-ghost use Rattle.planes.specs.Planes.{Bits, setOf, labelFrom};
+ghost use Rattle.planes.specs.Planes.{Bits, setOf, labelFrom, planeOf};
 ghost use Rattle.machine.specs.Limits.{highestLabel};
 ghost use Rattle.machine.specs.State.{unused, slotAt, register, withLabel, withSpare, withPc, withRegister};
 ghost use Rattle.machine.specs.Turn.{hasRoom};
 ghost use Rattle.table.specs.Table.{startWord, ringWord, slotWords, mailboxRoom, window, planeIn, ringIn, slotsIn, held};
-ghost use Rattle.table.specs.Words.{SlotChanged, SlotStored, cleared, Planed, WithBit, WithoutBit, Moved, down, up, With, Closed, Without};
-ghost use Rattle.table.specs.Change.{Used, taskAt, messageAt, change, slotWithKind, withMessage, withoutMessage, newTask};
+ghost use Rattle.table.specs.Words.{SlotChanged, SlotStored, cleared, Planed, WithBit, WithoutBit, Moved, Mailed, down, up, With, Closed, Without};
+ghost use Rattle.table.specs.Change.{Used, taskAt, messageAt, change, slotWithKind, withMessage, withoutMessage, withMail, Opened, newTask};
 
 const SLOTS: usize = 16;
 
@@ -345,18 +345,26 @@ fn mark(t: &mut Table, s: usize, n: usize, label: u8)
     }
 }
 
-// Message n is written behind those before it; the count is not.
-fn write_message(t: &mut Table, s: usize, n: usize, label: u8, sender: u8, value: u32)
-    requires { ⌜ (s < 16) × (n < mailboxRoom) × (label ≤ highestLabel) ⌝ }
-    ensures { λ _. ⌜ SlotChanged s (With n (record { label = label; sender = sender; value = value })) (now (t .entry)) (now (t .exit)) ⌝ }
+// The word of message i, there or not, gets a sender and a value.
+fn put_mail(t: &mut Table, s: usize, i: usize, sender: u8, value: u32)
+    requires { ⌜ (s < 16) × (i < mailboxRoom) ⌝ }
+    ensures { λ _. ⌜ SlotChanged s (Mailed i (sender * 4294967296 + value)) (now (t .entry)) (now (t .exit)) ⌝ }
 {
-    let at = (ring_start(t, s) + n) % MAILBOX_ROOM;
+    let at = (ring_start(t, s) + i) % MAILBOX_ROOM;
     put(
         t,
         s,
         RING + at,
         (sender as u64) * 4294967296 + (value as u64),
     );
+}
+
+// Message n is written behind those before it; the count is not.
+fn write_message(t: &mut Table, s: usize, n: usize, label: u8, sender: u8, value: u32)
+    requires { ⌜ (s < 16) × (n < mailboxRoom) × (label ≤ highestLabel) ⌝ }
+    ensures { λ _. ⌜ SlotChanged s (With n (record { label = label; sender = sender; value = value })) (now (t .entry)) (now (t .exit)) ⌝ }
+{
+    put_mail(t, s, n, sender, value);
     mark(t, s, n, label);
 }
 
@@ -461,6 +469,28 @@ pub fn remove(t: &mut Table, s: usize, i: usize)
     let n = mailbox_length(t, s);
     drop_message(t, s, i, n);
     put(t, s, COUNT, (n - 1) as u64);
+}
+
+// ---- a whole mailbox
+
+// The mailbox of slot s has n messages with these labels, in place of what it had. `set_mail` gives each its sender and its value.
+pub fn open_mailbox(t: &mut Table, s: usize, n: usize, labels: planes::LabelPlanes)
+    requires { ⌜ (s < 16) × (n ≤ mailboxRoom) ⌝ }
+    ensures { λ _. ⌜ Opened s n (labelFrom 4 (planeOf labels)) (slotsIn (now (t .entry))) (slotsIn (now (t .exit))) ⌝ }
+{
+    put(t, s, PLANES, labels.first);
+    put(t, s, PLANES + 1, labels.second);
+    put(t, s, PLANES + 2, labels.third);
+    put(t, s, PLANES + 3, labels.fourth);
+    put(t, s, COUNT, n as u64);
+}
+
+// Message i gets a sender and a value.
+pub fn set_mail(t: &mut Table, s: usize, i: usize, sender: u8, value: u32)
+    requires { ⌜ i < length (taskAt (slotsIn (now t)) s .mailbox) ⌝ }
+    ensures { λ _. ⌜ slotsIn (now (t .exit)) ≡ change s (withMail i sender value) (slotsIn (now (t .entry))) ⌝ }
+{
+    put_mail(t, s, i, sender, value);
 }
 
 // ---- changing a slot

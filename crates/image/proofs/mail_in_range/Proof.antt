@@ -19,14 +19,14 @@ loop-again : tie.Need-loop-again Inv-loop μ-loop
 loop-again c =
     let d = c .before .before in
     let h = c .before .before .before .before .before .loop in
-    (omega arith, message-counted _ (h .j) _ _ (d .before .byte-at .ensures) (d .byte-at2 .ensures) (h .counts) (h .inv .1) (c .before .if1 .taken) (c .if2 .taken))
+    (omega arith, message-counted _ (h .j) _ _ (d .before .byte .ensures) (d .byte2 .ensures) (h .counts) (h .inv .1) (c .before .if1 .taken) (c .if2 .taken))
 
 returns : tie.Need-returns Inv-loop μ-loop
 returns c =
     let d = c .before .before in
     let h = c .before .before .before .before .before .loop in
     rw (← c .before .before .before .before .before .before .drop .ensures .0)
-    (sym (message-fifth _ (h .j) _ _ (d .before .byte-at .ensures) (d .byte-at2 .ensures) (h .counts) (h .inv .1)
+    (sym (message-fifth _ (h .j) _ _ (d .before .byte .ensures) (d .byte2 .ensures) (h .counts) (h .inv .1)
     (c .before .if1 .taken) _ (c .before .before .before .before .loop-test .taken) (c .if2 .left)))
 
 returns-2 : tie.Need-returns-2 Inv-loop μ-loop
@@ -34,7 +34,7 @@ returns-2 c =
     let d = c .before in
     let h = c .before .before .before .before .loop in
     rw (← c .before .before .before .before .before .drop .ensures .0)
-    (sym (message-out-of-range _ (h .j) _ _ (d .before .byte-at .ensures) (d .byte-at2 .ensures) _ (c .before .before .before .loop-test .taken) (c .if1 .left)))
+    (sym (message-out-of-range _ (h .j) _ _ (d .before .byte .ensures) (d .byte2 .ensures) _ (c .before .before .before .loop-test .taken) (c .if1 .left)))
 
 returns-3 : tie.Need-returns-3 Inv-loop μ-loop
 returns-3 c =
@@ -53,14 +53,14 @@ mail-in-range-spec =
     (λ c κs. tt)
     (λ c. (omega arith, counted-none))
     (λ c. omega arith)
-    (λ c κs. tt)
+    (λ c κs. omega arith)
     (λ c. omega arith)
     (λ c. omega arith)
     (λ c. omega arith)
-    (λ c κs. tt)
-    (λ c. label-low _ (c .before .byte-at2 .result) (c .if1 .taken))
+    (λ c κs. omega arith)
+    (λ c. label-low _ (c .before .byte2 .result) (c .if1 .taken))
     (λ c. omega arith)
-    (λ c. label-low _ (c .before .before .byte-at2 .result) (c .before .if1 .taken))
+    (λ c. label-low _ (c .before .before .byte2 .result) (c .before .if1 .taken))
     (λ c. omega arith)
     (λ c. omega arith)
     loop-again

@@ -1,14 +1,14 @@
 -- `snapshot::load_task` meets its contract: a new task, then its registers, then its messages.
-use Prim.Native.Nat.{_/_}
 use mathlib.Core.Path.{_≡_, ap, _∙_}
-use lib.ListN.{length, getD, drop, set, length-drop}
+use lib.ListN.{getD, drop, set, length-drop}
 use native.Mathlib.Omega.{arith}
 use denote.Ref.{now}
 use Rattle.wire.specs.Numbers.{decodeNumber}
+use Rattle.machine.specs.State.{withMailbox}
 use Rattle.table.specs.Table.{held, slotsIn}
 use Rattle.table.specs.Change.{change, newTask}
 use Rattle.table.proofs.Change.{length-slots}
-use Rattle.snapshot.specs.Loading.{registersSet, messagesAdded}
+use Rattle.snapshot.specs.Loading.{registersSet, messagesOf}
 use Rattle.snapshot.proofs.Loading.{from-on, registers-here, task-loaded}
 use Rattle.snapshot.proofs.load_task.Statement.{statement}
 use Rattle.snapshot.proofs.load_task.Tie as tie
@@ -27,14 +27,14 @@ load-mailbox-requires : tie.Need-load-mailbox-requires
 load-mailbox-requires c κs =
     let b = c .before .before .before .before .before .before .before .before .before .before .before .before .before in
     let here = registers-here (now (b .args .bytes)) (b .pre .1) (b .args .slot) (slotsIn (now (b .args .table))) (omega (arith, b .pre .0, length-slots (now (b .args .table)))) in
-    rw (put (c .before .before), from-on) (here .0, omega (arith, here .1, b .pre .1 .messages), b .pre .1 .labels)
+    rw (put (c .before .before), from-on) (here, b .pre .1 .messages, b .pre .1 .labels)
 
 returns : tie.Need-returns
 returns c =
     let b = c .before .before .before .before .before .before .before .before .before .before .before .before .before .before in
     let a = b .args in
     let r = now (a .bytes) in
-    rw from-on at (c .load-mailbox .ensures) ∙ ap (change (a .slot) (messagesAdded (length (drop 37 r) / 6) (drop 37 r))) (put (c .before .before .before))
+    rw from-on at (c .load-mailbox .ensures) ∙ ap (change (a .slot) (withMailbox (messagesOf (drop 37 r)))) (put (c .before .before .before))
     ∙ task-loaded r (b .pre .1) (a .slot) (slotsIn (now (a .table)))
 
 pub load-task-spec : {M : Type 1} → statement M
