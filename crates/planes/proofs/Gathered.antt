@@ -1,5 +1,5 @@
 -- Laws of the planes of a list of labels: bit i of plane b is bit b of label i, and there is none behind the last.
-use Prim.Native.Nat.{ℕ, zero, suc, _+_, _*_, _^_, _<_, _≤_}
+use Prim.Native.Nat.{ℕ, zero, suc, _+_, _*_, _<_, _≤_}
 use mathlib.Core.Path.{_≡_, refl, _∙_}
 use mathlib.Core.List.{List, [], _∷_}
 use native.Mathlib.Nat.{pow-suc, not-suc-le-zero, lt-of-lt-of-le}

@@ -1,18 +1,18 @@
 -- Laws of the planes of a slot, changed one by one, and of a message whose words were stored.
 use Prim.Native.Nat.{ℕ, _+_, _*_, _/_, _%_, _<_, _≤_}
-use mathlib.Core.Path.{_≡_, refl, sym, ap, _∙_}
+use mathlib.Core.Path.{_≡_, refl, _∙_}
 use mathlib.Core.Logic.{_≢_, dite}
 use mathlib.Core.List.{List}
 use native.Mathlib.Decide.{ℕ-discrete}
 use native.Mathlib.Omega.{arith}
 use borrow.Author.Tests.{eq-eqb, ne-eqb}
 use lib.ListN.{length, getD, drop, set, length-drop}
-use lib.Seq.{getD-drop, drop-set-add, drop-set-lt, getD-set-same, getD-set-other}
+use lib.Seq.{drop-set-add, drop-set-lt, getD-set-same, getD-set-other}
 use Rattle.planes.proofs.Labels.{label-is}
 use Rattle.machine.specs.State.{Message}
 use Rattle.table.specs.Table.{window, planeIn, ringIn, messageIn}
 use Rattle.table.specs.Words.{SlotChanged, SlotStored, Planed, Mailed, WithBit, WithoutBit, With, Closed, Without}
-use Rattle.table.proofs.Window.{window-length, changed-none, changed-stored}
+use Rattle.table.proofs.Window.{window-length, changed-none, changed-then}
 use Rattle.table.proofs.Message.{message-same}
 
 -- ---- one plane after another
@@ -38,7 +38,7 @@ module _ (R : ℕ → ℕ → ℕ → Type 0) where
     pub planes-more : (n y : ℕ) (u v : List ℕ) → n < 4 → SlotChanged s (Planed n R) t u → R n (planeIn (window u s) n) y → SlotStored s (λ w. set w (16 + n) y) u v
         → SlotChanged s (Planed (n + 1) R) t v
     planes-more n y u v small p r q =
-        changed-stored (Planed (n + 1) R) p q (λ x h e. rw e (planed-more (window t s) (window u s) n y small (window-length u s) h r))
+        changed-then (Planed (n + 1) R) p q (λ h e. rw e (planed-more (window t s) (window u s) n y small (window-length u s) h r))
 
 -- ---- a message more
 

@@ -2,18 +2,16 @@
 use Prim.Native.Nat.{ℕ, suc, _+_, _-_, _%_, _<_, _≤_}
 use mathlib.Core.Path.{_≡_, refl, sym, subst, _∙_}
 use mathlib.Core.Logic.{_≢_, dite}
-use mathlib.Core.Bool.{cond}
 use mathlib.Core.List.{List}
 use native.Mathlib.Decide.{ℕ-discrete, decLt}
 use native.Mathlib.Omega.{arith}
 use borrow.Author.Tests.{lt-ltb, le-ltb}
-use lib.Dec.{ltb}
 use lib.ListN.{length, getD, drop, set, length-drop}
 use lib.Seq.{getD-drop, drop-set-add, drop-set-lt, getD-set-same, getD-set-other}
 use Rattle.planes.specs.Planes.{behindGap}
 use Rattle.table.specs.Table.{window, planeIn, ringIn}
 use Rattle.table.specs.Words.{SlotChanged, SlotStored, Moved, Mailed, down, up, Closed}
-use Rattle.table.proofs.Window.{window-length, changed-none, changed-stored}
+use Rattle.table.proofs.Window.{window-length, changed-none, changed-then}
 
 -- ---- a word of the ring is stored
 
@@ -64,7 +62,7 @@ module _ (s start : ℕ) (t : List ℕ) (f : ℕ → ℕ) where
   pub ring-more : (g : ℕ → ℕ) (from to : ℕ) (u v : List ℕ) → to < 64 → from < 64 → SlotChanged s (Moved start f) t u
       → SlotStored s (λ w. set w (20 + (start + to) % 64) (ringIn start w from)) u v → g to ≡ f from → ((j : ℕ) → j ≢ to → g j ≡ f j) → SlotChanged s (Moved start g) t v
   ring-more g from to u v h l p q here others =
-      changed-stored (Moved start g) p q (λ x m e. rw e (moved-more start f g (window t s) (window u s) from to h l (window-length u s) m here others))
+      changed-then (Moved start g) p q (λ m e. rw e (moved-more start f g (window t s) (window u s) from to h l (window-length u s) m here others))
 
 -- ---- down and up, message by message
 

@@ -33,22 +33,6 @@ module _ (t : List ℕ) (s : ℕ) where
 
 -- ---- one after another
 
-pub stored-then : {s : ℕ} {f g : List ℕ → List ℕ} {t u v : List ℕ} → SlotStored s f t u → SlotStored s g u v → SlotStored s (λ w. g (f w)) t v
-stored-then {g = g} p q = record { here = q .here ∙ ap g (p .here); other = λ j l ne. q .other j l ne ∙ p .other j l ne }
-
-module _ {s : ℕ} {t u v : List ℕ} (S : List ℕ → List ℕ → Type 0) where
-  pub changed-stored : {R : List ℕ → List ℕ → Type 0} {f : List ℕ → List ℕ} → SlotChanged s R t u → SlotStored s f u v
-      → ((x : List ℕ) → R (window t s) (window u s) → x ≡ f (window u s) → S (window t s) x) → SlotChanged s S t v
-  changed-stored p q e = record { here = e (window v s) (p .here) (q .here); other = λ j l ne. q .other j l ne ∙ p .other j l ne }
-
-  pub stored-changed : {f : List ℕ → List ℕ} {R : List ℕ → List ℕ → Type 0} → SlotStored s f t u → SlotChanged s R u v
-      → (window u s ≡ f (window t s) → R (window u s) (window v s) → S (window t s) (window v s)) → SlotChanged s S t v
-  stored-changed p q e = record { here = e (p .here) (q .here); other = λ j l ne. q .other j l ne ∙ p .other j l ne }
-
-  pub changed-changed : {P Q : List ℕ → List ℕ → Type 0} → SlotChanged s P t u → SlotChanged s Q u v
-      → (P (window t s) (window u s) → Q (window u s) (window v s) → S (window t s) (window v s)) → SlotChanged s S t v
-  changed-changed p q e = record { here = e (p .here) (q .here); other = λ j l ne. q .other j l ne ∙ p .other j l ne }
-
 pub changed-none : (s : ℕ) (R : List ℕ → List ℕ → Type 0) (t : List ℕ) → R (window t s) (window t s) → SlotChanged s R t t
 changed-none s R t r = record { here = r; other = λ j l ne. refl }
 
@@ -56,16 +40,18 @@ pub changed-as : {s : ℕ} {R : List ℕ → List ℕ → Type 0} {t u : List �
     → (R (window t s) (window u s) → S (window t s) (window u s)) → SlotChanged s S t u
 changed-as S p e = record { here = e (p .here); other = p .other }
 
-pub stored-as : {s : ℕ} {f : List ℕ → List ℕ} {R : List ℕ → List ℕ → Type 0} {t u : List ℕ} → SlotStored s f t u → (window u s ≡ f (window t s) → R (window t s) (window u s))
-    → SlotChanged s R t u
-stored-as p e = record { here = e (p .here); other = p .other }
+pub changed-then : {s : ℕ} {P Q : List ℕ → List ℕ → Type 0} {t u v : List ℕ} (S : List ℕ → List ℕ → Type 0) → SlotChanged s P t u → SlotChanged s Q u v
+    → (P (window t s) (window u s) → Q (window u s) (window v s) → S (window t s) (window v s)) → SlotChanged s S t v
+changed-then S p q e = record { here = e (p .here) (q .here); other = λ j l ne. q .other j l ne ∙ p .other j l ne }
+
+pub stored-then : {s : ℕ} {f g : List ℕ → List ℕ} {t u v : List ℕ} → SlotStored s f t u → SlotStored s g u v → SlotStored s (λ w. g (f w)) t v
+stored-then {f = f} {g = g} p q = changed-then (λ w u. u ≡ g (f w)) p q (λ e d. d ∙ ap g e)
 
 -- ---- the loop that clears words
 
 pub cleared-none : (t : List ℕ) (s : ℕ) → SlotStored s (cleared 0) t t
-cleared-none t s = record { here = refl; other = λ j l ne. refl }
+cleared-none t s = changed-none s (λ w u. u ≡ cleared 0 w) t refl
 
 pub cleared-more : {s i : ℕ} {t u v : List ℕ} → i < 84 → SlotStored s (cleared i) t u → SlotStored s (λ w. set w i 0) u v → SlotStored s (cleared (i + 1)) t v
 cleared-more {s} {i} {t} h p q =
-    let r = stored-then p q in
-    record { here = r .here ∙ fill-more i 0 (window t s) (omega (arith, window-length t s)); other = r .other }
+    changed-as (λ w u. u ≡ cleared (i + 1) w) (stored-then p q) (λ e. e ∙ fill-more i 0 (window t s) (omega (arith, window-length t s)))

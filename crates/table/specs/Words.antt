@@ -16,10 +16,9 @@ pub record SlotChanged (s : ℕ) (R : List ℕ → List ℕ → Type 0) (t u : L
   pub here : R (window t s) (window u s)
   pub other : (j : ℕ) → j < 16 → j ≢ s → window u j ≡ window t j
 
--- u is the table t with f of the words of slot s
-pub record SlotStored (s : ℕ) (f : List ℕ → List ℕ) (t u : List ℕ) : Type 0 where
-  pub here : window u s ≡ f (window t s)
-  pub other : (j : ℕ) → j < 16 → j ≢ s → window u j ≡ window t j
+-- with f of the words there
+abbrev pub SlotStored : ℕ → (List ℕ → List ℕ) → List ℕ → List ℕ → Type 0
+SlotStored s f = SlotChanged s (λ w u. u ≡ f w)
 
 -- the words with 0 for the first n
 abbrev pub cleared : ℕ → List ℕ → List ℕ

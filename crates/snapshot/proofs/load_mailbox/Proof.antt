@@ -1,5 +1,5 @@
 -- `snapshot::load_mailbox` meets its contract: the labels, and then the rest of each message.
-use mathlib.Core.Path.{_≡_, subst, _∙_}
+use mathlib.Core.Path.{subst, _∙_}
 use Prim.Native.Nat.{_/_}
 use native.Mathlib.Omega.{arith}
 use denote.Ref.{now}

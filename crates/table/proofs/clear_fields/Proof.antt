@@ -24,12 +24,4 @@ returns c = let e : c .before .loop .i ≡ 16 = omega arith in rw e at (c .befor
 pub clear-fields-spec : {M : Type 1} → statement M
 clear-fields-spec =
     tie.close
-    (tie.spec
-    Inv-loop
-    μ-loop
-    (λ c. (omega arith, cleared-none _ _))
-    (λ c κs. omega arith)
-    (λ c. omega arith)
-    (λ c. omega arith)
-    loop-again
-    returns)
+    (tie.spec Inv-loop μ-loop (λ c. (omega arith, cleared-none _ _)) (λ c κs. omega arith) (λ c. omega arith) (λ c. omega arith) loop-again returns)

@@ -3,7 +3,7 @@ use native.Mathlib.Omega.{arith}
 use denote.Ref.{now}
 use Rattle.table.specs.Table.{window}
 use Rattle.table.specs.Words.{Closed}
-use Rattle.table.proofs.Window.{window-length, changed-stored, changed-as}
+use Rattle.table.proofs.Window.{window-length, changed-then, changed-as}
 use Rattle.table.proofs.Ring.{closed-up, closed-down}
 use Rattle.table.proofs.close_gap.Statement.{statement}
 use Rattle.table.proofs.close_gap.Tie as tie
@@ -14,10 +14,9 @@ returns c =
     let start = up .before .before .before in
     let b = start .before .before in
     let a = b .args in
-    changed-stored (Closed (a .i) (a .n)) (up .move-up .ensures) (c .put .ensures)
-    (λ x p e.
-    closed-up (a .i) (a .n) (start .ring-start .result) (window (now (a .t)) (a .s)) (window (up .move-up .last .0) (a .s)) x (start .ring-start .ensures)
-    (window-length (up .move-up .last .0) (a .s)) (omega arith) (omega arith) p e)
+    changed-then (Closed (a .i) (a .n)) (up .move-up .ensures) (c .put .ensures)
+    (closed-up (a .i) (a .n) (start .ring-start .result) (window (now (a .t)) (a .s)) (window (up .move-up .last .0) (a .s)) (window (c .put .last .0) (a .s)) (start .ring-start .ensures)
+    (window-length (up .move-up .last .0) (a .s)) (omega arith) (omega arith))
 
 returns-2 : tie.Need-returns-2
 returns-2 c =
@@ -31,11 +30,7 @@ pub close-gap-spec : {M : Type 1} → statement M
 close-gap-spec =
     tie.close
     (tie.spec
-    (λ c κs. omega arith)
-    (λ c. omega arith)
+    (λ c κs. omega arith) (λ c. omega arith)
     (λ c κs. omega (arith, c .before .before .ring-start .ensures))
-    (λ c. omega (arith, c .before .before .before .before .ring-start .ensures))
-    (λ c κs. omega arith)
-    (λ c κs. omega (arith, c .before .before .ring-start .ensures))
-    returns
-    returns-2)
+    (λ c. omega (arith, c .before .before .before .before .ring-start .ensures)) (λ c κs. omega arith)
+    (λ c κs. omega (arith, c .before .before .ring-start .ensures)) returns returns-2)

@@ -4,7 +4,7 @@ use native.Mathlib.Omega.{arith}
 use denote.Ref.{now}
 use Rattle.table.specs.Table.{window}
 use Rattle.table.specs.Words.{Without}
-use Rattle.table.proofs.Window.{changed-changed}
+use Rattle.table.proofs.Window.{changed-then}
 use Rattle.table.proofs.Planes.{message-without}
 use Rattle.table.proofs.drop_message.Statement.{statement}
 use Rattle.table.proofs.drop_message.Tie as tie
@@ -19,7 +19,7 @@ returns-2 : tie.Need-returns-2
 returns-2 c =
     let gap = c .before .before in
     let a = gap .before .before .before .args in
-    changed-changed (Without (a .i) (a .n)) (gap .close-gap .ensures) (c .unmark .ensures)
+    changed-then (Without (a .i) (a .n)) (gap .close-gap .ensures) (c .unmark .ensures)
     (message-without (a .i) (a .n) (window (now (a .t)) (a .s)) (window (gap .close-gap .last .0) (a .s)) (window (c .unmark .last .0) (a .s)) (omega arith))
 
 pub drop-message-spec : {M : Type 1} → statement M

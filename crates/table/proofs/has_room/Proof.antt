@@ -39,10 +39,4 @@ returns-3 c = let k = many (c .before) in sym (lt-ltb k 4 (leb-false 4 k (sym (c
 pub has-room-spec : {M : Type 1} → statement M
 has-room-spec =
     tie.close
-    (tie.spec
-    (λ c κs. c .pre .0)
-    returns
-    (λ c κs. (c .before .before .pre .0, omega (arith, c .before .before .pre .1)))
-    (λ c κs. tt)
-    returns-2
-    returns-3)
+    (tie.spec (λ c κs. c .pre .0) returns (λ c κs. (c .before .before .pre .0, omega (arith, c .before .before .pre .1))) (λ c κs. tt) returns-2 returns-3)

@@ -21,8 +21,4 @@ returns c =
 pub of-label-spec : {M : Type 1} → statement M
 of-label-spec =
     tie.close
-    (tie.spec
-    (λ c κs. omega (arith, used-slot _ _ (c .pre .0)))
-    (λ c κs. c .before .pre .0)
-    (λ c κs. c .mailbox-length .ensures .1)
-    returns)
+    (tie.spec (λ c κs. omega (arith, used-slot _ _ (c .pre .0))) (λ c κs. c .before .pre .0) (λ c κs. c .mailbox-length .ensures .1) returns)

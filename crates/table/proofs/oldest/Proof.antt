@@ -44,10 +44,5 @@ returns-3 c = omega (arith, found (c .before))
 pub oldest-spec : {M : Type 1} → statement M
 oldest-spec =
     tie.close
-    (tie.spec
-    (λ c κs. c .pre)
-    returns
-    (λ c κs. omega (arith, used-slot _ _ (c .before .before .pre)))
-    (λ c. omega (arith, trailing-le 64 (c .flowing .result)))
-    returns-2
-    returns-3)
+    (tie.spec (λ c κs. c .pre) returns (λ c κs. omega (arith, used-slot _ _ (c .before .before .pre))) (λ c. omega (arith, trailing-le 64 (c .flowing .result)))
+    returns-2 returns-3)

@@ -4,7 +4,8 @@ use mathlib.Core.Path.{ap}
 use native.Mathlib.Omega.{arith}
 use denote.Ref.{now}
 use Rattle.table.specs.Table.{window}
-use Rattle.table.proofs.Window.{window-length, stored-as}
+use Rattle.table.specs.Words.{Mailed}
+use Rattle.table.proofs.Window.{window-length, changed-as}
 use Rattle.table.proofs.Ring.{mail-stored}
 use Rattle.table.proofs.put_mail.Statement.{statement}
 use Rattle.table.proofs.put_mail.Tie as tie
@@ -15,7 +16,7 @@ returns c =
     let b = start .before .before in
     let a = b .args in
     let w = window (now (a .t)) (a .s) in
-    stored-as (c .put .ensures)
+    changed-as (Mailed (a .i) (a .sender * 4294967296 + a .value)) (c .put .ensures)
     (mail-stored (a .i) ((start .ring-start .result + a .i) % 64) (a .sender * 4294967296 + a .value) w (window (c .put .last .0) (a .s)) (window-length (now (a .t)) (a .s)) (omega arith)
     (ap (λ (x : ℕ). (x + a .i) % 64) (start .ring-start .ensures)))
 

@@ -21,8 +21,4 @@ returns c =
 pub receivable-spec : {M : Type 1} → statement M
 receivable-spec =
     tie.close
-    (tie.spec
-    (λ c κs. omega (arith, used-slot _ _ (c .pre)))
-    (λ c κs. c .before .pre)
-    (λ c κs. c .mailbox-length .ensures .1)
-    returns)
+    (tie.spec (λ c κs. omega (arith, used-slot _ _ (c .pre))) (λ c κs. c .before .pre) (λ c κs. c .mailbox-length .ensures .1) returns)
