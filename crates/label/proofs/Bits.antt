@@ -19,13 +19,13 @@ bit-half o x = rw (pow-succ', ← div-div-eq-div-mul)
 pub bit-lt : (o x : ℕ) → bit o x < 2
 bit-lt o x = mod-lt (x / 2 ^ o) (omega arith)
 
--- a bit t below the bits of r
+-- a bit t ahead of the bits of r
 module _ (t r : ℕ) (h : t < 2) where
-  pub bit-below-first : bit 0 (t + 2 * r) ≡ t
-  bit-below-first = bit-first (t + 2 * r) ∙ omega arith
+  pub bit-ahead-first : bit 0 (t + 2 * r) ≡ t
+  bit-ahead-first = bit-first (t + 2 * r) ∙ omega arith
 
-  pub bit-below-rest : (o : ℕ) → bit (suc o) (t + 2 * r) ≡ bit o r
-  bit-below-rest o = let half : (t + 2 * r) / 2 ≡ r = omega arith in bit-half o (t + 2 * r) ∙ ap (bit o) half
+  pub bit-ahead-rest : (o : ℕ) → bit (suc o) (t + 2 * r) ≡ bit o r
+  bit-ahead-rest o = let half : (t + 2 * r) / 2 ≡ r = omega arith in bit-half o (t + 2 * r) ∙ ap (bit o) half
 
 -- numbers of n bits are equal where their bits are
 pub bits-ext : (n x y : ℕ) → x < 2 ^ n → y < 2 ^ n → ((o : ℕ) → o < n → bit o x ≡ bit o y) → x ≡ y

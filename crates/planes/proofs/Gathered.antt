@@ -7,7 +7,7 @@ use native.Mathlib.Omega.{arith}
 use lib.ListN.{length, getD}
 use lib.Pow.{pow-mono}
 use Rattle.label.specs.Label.{bit}
-use Rattle.label.proofs.Bits.{bit-lt, bit-below-first, bit-below-rest}
+use Rattle.label.proofs.Bits.{bit-lt, bit-ahead-first, bit-ahead-rest}
 use Rattle.planes.specs.declared.LabelPlanes.{LabelPlanes}
 use Rattle.planes.specs.Planes.{labelFrom, planeOf, Fits, ahead, planesOf}
 use Rattle.planes.proofs.Labels.{label-is}
@@ -40,10 +40,10 @@ planes-fit n labels few b h = lt-of-lt-of-le (planes-below labels b h) (pow-mono
 plane-bit : (labels : List ℕ) (b i : ℕ) → b < 4 → i < length labels → bit i (planeOf (planesOf labels) b) ≡ bit b (getD labels i 0)
 unfolding planesOf
 plane-bit [] b i h l = absurd (not-suc-le-zero l)
-plane-bit (label ∷ labels) b zero h l = rw (plane-ahead label (planesOf labels) b h) (bit-below-first (bit b label) (planeOf (planesOf labels) b) (bit-lt b label))
+plane-bit (label ∷ labels) b zero h l = rw (plane-ahead label (planesOf labels) b h) (bit-ahead-first (bit b label) (planeOf (planesOf labels) b) (bit-lt b label))
 plane-bit (label ∷ labels) b (suc i) h l =
     rw (plane-ahead label (planesOf labels) b h)
-    (bit-below-rest (bit b label) (planeOf (planesOf labels) b) (bit-lt b label) i ∙ plane-bit labels b i h (omega arith))
+    (bit-ahead-rest (bit b label) (planeOf (planesOf labels) b) (bit-lt b label) i ∙ plane-bit labels b i h (omega arith))
 
 -- label i is read from the planes
 pub label-gathered : (labels : List ℕ) (i : ℕ) → i < length labels → getD labels i 0 ≤ 15 → labelFrom 4 (planeOf (planesOf labels)) i ≡ getD labels i 0

@@ -12,7 +12,7 @@ use lib.Pow.{pow-mono}
 use Rattle.wire.specs.Lists.{each}
 use Rattle.wire.proofs.Lists.{each-intro, each-at, same-tests}
 use Rattle.label.specs.Label.{bit, flows}
-use Rattle.label.proofs.Bits.{bit-below-first, bit-below-rest, bits-ext, bit-lt}
+use Rattle.label.proofs.Bits.{bit-ahead-first, bit-ahead-rest, bits-ext, bit-lt}
 use Rattle.planes.specs.Planes.{labelFrom}
 
 label-lt : (n : ℕ) (plane : ℕ → ℕ) (i : ℕ) → labelFrom n plane i < 2 ^ n
@@ -26,9 +26,9 @@ label-lt (suc n) plane i =
 pub label-bit : (n : ℕ) (plane : ℕ → ℕ) (i b : ℕ) → b < n → bit b (labelFrom n plane i) ≡ bit i (plane b)
 unfolding labelFrom
 label-bit zero plane i b h = absurd (not-suc-le-zero h)
-label-bit (suc n) plane i zero h = bit-below-first (bit i (plane 0)) (labelFrom n (λ b. plane (suc b)) i) (bit-lt i (plane 0))
+label-bit (suc n) plane i zero h = bit-ahead-first (bit i (plane 0)) (labelFrom n (λ b. plane (suc b)) i) (bit-lt i (plane 0))
 label-bit (suc n) plane i (suc b) h =
-    bit-below-rest (bit i (plane 0)) (labelFrom n (λ b. plane (suc b)) i) (bit-lt i (plane 0)) b ∙ label-bit n (λ b. plane (suc b)) i b (omega arith)
+    bit-ahead-rest (bit i (plane 0)) (labelFrom n (λ b. plane (suc b)) i) (bit-lt i (plane 0)) b ∙ label-bit n (λ b. plane (suc b)) i b (omega arith)
 
 -- a label is known by its bits
 pub label-is : (n : ℕ) (plane : ℕ → ℕ) (i m : ℕ) → m < 2 ^ n → ((b : ℕ) → b < n → bit i (plane b) ≡ bit b m) → labelFrom n plane i ≡ m

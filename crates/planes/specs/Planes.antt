@@ -27,6 +27,7 @@ behindGap k i = cond (ltb i k) i (suc i)
 
 -- ---- the planes of a list of labels
 
+-- plane b of the four
 abbrev pub planeOf : LabelPlanes → ℕ → ℕ
 planeOf p zero = p .first
 planeOf p (suc zero) = p .second
@@ -47,6 +48,7 @@ ahead label p =
       fourth = bit 3 label + 2 * p .fourth;
     }
 
+-- label i is read from them again (`label-gathered`, planes/proofs/Gathered.antt)
 unfoldable pub planesOf : List ℕ → LabelPlanes
 planesOf [] = record { first = 0; second = 0; third = 0; fourth = 0 }
 planesOf (label ∷ labels) = ahead label (planesOf labels)

@@ -38,12 +38,20 @@ pub fn has_four(set: u64) -> bool
 
 // ---- planes: bit i of plane b is bit b of the label of message i
 
+// Bit b of a label.
+fn label_bit(label: u8, b: usize) -> u64
+    requires { ⌜ b < 4 ⌝ }
+    ensures { λ r. ⌜ r ≡ bit b label ⌝ }
+{
+    ((label as u64) >> b) % 2
+}
+
 // All bits are bit b of the label. It is written without a branch, and so is what uses it.
 fn spread(label: u8, b: usize) -> u64
     requires { ⌜ b < 4 ⌝ }
     ensures { λ r. ⌜ Bits (λ i. bit b label) r ⌝ }
 {
-    std::num::wrapping_sub_u64(0, ((label as u64) >> b) & 1)
+    std::num::wrapping_sub_u64(0, label_bit(label, b))
 }
 
 // The messages whose bit in plane b is not the label's.
@@ -81,7 +89,7 @@ pub fn without_bit(plane: u64, k: usize) -> u64
     (plane & low) | ((plane >> 1) & !low)
 }
 
-// ---- the four planes of labels that are gathered from the last to the first
+// ---- the four planes of labels, gathered from the last label to the first
 
 pub struct LabelPlanes {
     pub first: u64,
@@ -102,15 +110,15 @@ pub fn no_labels() -> LabelPlanes
     }
 }
 
-// Plane b with the label's bit ahead of its own, which go up by one place.
+// Plane b with the label's bit as bit 0: its own go up by one place.
 fn bit_ahead(plane: u64, label: u8, b: usize) -> u64
     requires { ⌜ (plane < 2 ^ 63) × (b < 4) ⌝ }
     ensures { λ r. ⌜ r ≡ bit b label + 2 * plane ⌝ }
 {
-    plane * 2 + (((label as u64) >> b) % 2)
+    plane * 2 + label_bit(label, b)
 }
 
-// The planes with a label ahead of theirs. It goes through all four at once, so that they stay in registers.
+// The planes with a label ahead of theirs. All four go in and out by value, so that they stay in registers.
 pub fn ahead(planes: LabelPlanes, label: u8) -> LabelPlanes
     requires { ⌜ Fits 63 planes ⌝ }
     ensures { λ r. ⌜ r ≡ ahead label planes ⌝ }

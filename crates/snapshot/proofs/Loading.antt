@@ -27,8 +27,8 @@ use Rattle.image.proofs.Slots.{length-slotsOf, slot-at}
 use Rattle.image.proofs.Image.{accepted-valid, record-accepted}
 use Rattle.image.proofs.Records.{slot-some, task-length}
 use Rattle.table.specs.Table.{held}
-use Rattle.table.specs.Change.{noMessage, taskAt, Used, changeSlot, change, withMail, Opened, newTask}
-use Rattle.table.proofs.Change.{change-same, change-none, change-set, change-at, change-change}
+use Rattle.table.specs.Change.{noMessage, taskAt, Used, changeSlot, change, withMail, opened, newTask}
+use Rattle.table.proofs.Change.{change-same, change-none, change-set, change-at, change-change, opened-length, opened-label}
 use Rattle.snapshot.specs.Loading.{LabelsFit, Loadable, LoadableSlots, registersSet, mailSet, messagesOf, labelsOf}
 
 -- what is lent from index k on
@@ -134,26 +134,33 @@ mail-are (suc k) b t h e =
     ∙ ap (λ (l : ℕ). withMailbox (set (front ++ drop k ms) k (record { label = l; sender = m .sender; value = m .value })) t) label
     ∙ ap (λ (xs : List Message). withMailbox xs t) (item-stored 6 messageOf k b ms noMessage h)
 
--- as many messages are there as were opened
-pub opened-length : {s n : ℕ} {label : ℕ → ℕ} {ss ss′ : List Slot} → Used s ss → Opened s n label ss ss′ → length (taskAt ss′ s .mailbox) ≡ n
-opened-length {s} {n} {label} {ss} here o =
-    let x : slotAt (change s (withMailbox (o .messages)) ss) s ≡ used (withMailbox (o .messages) (taskAt ss s))
-    = change-at s (withMailbox (o .messages)) ss ∙ ap (changeSlot (withMailbox (o .messages))) here in
-    rw (o .slots, x) (o .many)
+-- a mailbox that was opened with the labels of b
+module _ (s : ℕ) (b w : List ℕ) (ss ss′ : List Slot) (slots : ss′ ≡ change s (withMailbox (opened (length b / 6) (labelFrom 4 (planeOf (planesOf (labelsOf b)))) w)) ss) where
+  abbrev n : ℕ
+  n = length b / 6
 
--- a mailbox that was opened with the labels of b, and then has its senders and values
-pub mailbox-loaded : (s : ℕ) (b : List ℕ) (ss ss′ : List Slot) → LabelsFit b → Opened s (length b / 6) (labelFrom 4 (planeOf (planesOf (labelsOf b)))) ss ss′
-    → change s (mailSet (length b / 6) b) ss′ ≡ change s (withMailbox (messagesOf b)) ss
-mailbox-loaded s b ss ss′ fit o =
-    let n = length b / 6 in
-    let ms = o .messages in
-    let fits : (i : ℕ) → i < n → getD (labelsOf b) i 0 ≤ 15 = λ i h. rw (label-of b i h, ← label-at i b) (fit i h) in
-    let labelled : Labelled b ms
-    = λ i h. let l : i < n = omega (arith, o .many) in o .labels i l ∙ label-gathered (labelsOf b) i (omega (arith, length-labels b)) (fits i l) ∙ label-of b i l in
-    let all : decodeItems 6 messageOf n b ++ drop n ms ≡ messagesOf b = rw (drop-of-length-le ms {i = n} (omega (arith, o .many))) (append-nil (messagesOf b)) in
-    ap (change s (mailSet n b)) (o .slots) ∙ change-change s (withMailbox ms) (mailSet n b) ss
-    ∙ change-same ss s (λ t. mailSet n b (withMailbox ms t)) (withMailbox (messagesOf b))
-    (λ t e. mail-are n b (withMailbox ms t) (omega (arith, o .many)) labelled ∙ ap (λ (xs : List Message). withMailbox xs t) all)
+  abbrev ms : List Message
+  ms = opened n (labelFrom 4 (planeOf (planesOf (labelsOf b)))) w
+
+  long : length ms ≡ n
+  long = opened-length n (labelFrom 4 (planeOf (planesOf (labelsOf b)))) w
+
+  -- has room for its senders and values
+  pub mailbox-opened : Used s ss → length (taskAt ss′ s .mailbox) ≡ n
+  mailbox-opened here =
+      let x : slotAt (change s (withMailbox ms) ss) s ≡ used (withMailbox ms (taskAt ss s)) = change-at s (withMailbox ms) ss ∙ ap (changeSlot (withMailbox ms)) here in
+      rw (slots, x) long
+
+  -- and then is that of b
+  pub mailbox-loaded : LabelsFit b → change s (mailSet n b) ss′ ≡ change s (withMailbox (messagesOf b)) ss
+  mailbox-loaded fit =
+      let labelled : Labelled b ms
+      = λ i h. let l : i < n = omega (arith, long) in opened-label n (labelFrom 4 (planeOf (planesOf (labelsOf b)))) w i l
+      ∙ label-gathered (labelsOf b) i (omega (arith, length-labels b)) (fit i l) ∙ label-of b i l in
+      let all : decodeItems 6 messageOf n b ++ drop n ms ≡ messagesOf b = rw (drop-of-length-le ms {i = n} (omega (arith, long))) (append-nil (messagesOf b)) in
+      ap (change s (mailSet n b)) slots ∙ change-change s (withMailbox ms) (mailSet n b) ss
+      ∙ change-same ss s (λ t. mailSet n b (withMailbox ms t)) (withMailbox (messagesOf b))
+      (λ t e. mail-are n b (withMailbox ms t) (omega (arith, long)) labelled ∙ ap (λ (xs : List Message). withMailbox xs t) all)
 
 module _ (r : List ℕ) (ok : Loadable r) where
   -- the task as it is put, with registers 0 and no messages
@@ -193,13 +200,11 @@ load-next b ys k r ss h l e f =
 -- ---- an accepted image
 
 -- the messages of a mailbox that is sound have labels
-labels-fit : (b : List ℕ) → MailboxFacts (decodeItems 6 messageOf (length b / 6) b) → LabelsFit b
+labels-fit : (b : List ℕ) → MailboxFacts (messagesOf b) → LabelsFit b
 labels-fit b facts i h =
-    let ms = decodeItems 6 messageOf (length b / 6) b in
-    let first : 6 * i + 0 ≡ 6 * i = omega arith in
     let small : (m : Message) → MessageFacts m → m .label ≤ 15 = λ m f. f .label in
-    rw (getD-decode 6 messageOf (length b / 6) i b noMessage h, getD-drop (6 * i) b 0 0, first)
-    at (every-at (λ m. m .label ≤ 15) noMessage (omega arith) ms (every-weaken MessageFacts (λ m. m .label ≤ 15) small ms (facts .each)) i)
+    let there = every-at (λ m. m .label ≤ 15) noMessage (omega arith) (messagesOf b) (every-weaken MessageFacts (λ m. m .label ≤ 15) small (messagesOf b) (facts .each)) i in
+    rw (label-of b i h) (rw (getD-decode 6 messageOf (length b / 6) i b noMessage h) at there)
 
 module _ (b : List ℕ) where
   -- its tasks have a kind, and their mailboxes no more than 64 messages

@@ -30,7 +30,7 @@ labelsOf b = decodeItems messageSize (λ m. messageOf m .label) (length b / mess
 
 -- the labels of the messages of b are labels
 abbrev pub LabelsFit : List ℕ → Type 0
-LabelsFit b = (i : ℕ) → i < length b / messageSize → getD b (messageSize * i) 0 ≤ highestLabel
+LabelsFit b = (i : ℕ) → i < length b / messageSize → getD (labelsOf b) i 0 ≤ highestLabel
 
 -- a record whose task the table can hold: all fields, a kind, and no more messages than a mailbox has room for, each with a label
 pub record Loadable (r : List ℕ) : Type 0 where

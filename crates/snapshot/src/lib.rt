@@ -34,8 +34,8 @@ fn load_registers(table: &mut table::Table, slot: usize, registers: &[u8])
     }
 }
 
-// The labels of the messages, from the last to the first.
-fn labels(mailbox: &[u8]) -> planes::LabelPlanes
+// The planes of the messages' labels, which are gathered from the last to the first.
+fn label_planes(mailbox: &[u8]) -> planes::LabelPlanes
     requires { ⌜ length (now mailbox) / messageSize ≤ mailboxRoom ⌝ }
     ensures { λ r. ⌜ r ≡ planesOf (labelsOf (now (mailbox .entry))) ⌝ }
 {
@@ -70,7 +70,7 @@ fn load_mailbox(table: &mut table::Table, slot: usize, mailbox: &[u8])
     ensures { λ _. ⌜ slotsIn (now (table .exit)) ≡ change slot (withMailbox (messagesOf (now (mailbox .entry)))) (slotsIn (now (table .entry))) ⌝ }
 {
     let count = mailbox.len() / image::MESSAGE_SIZE;
-    table::open_mailbox(table, slot, count, labels(mailbox));
+    table::open_mailbox(table, slot, count, label_planes(mailbox));
     load_mail(table, slot, mailbox);
 }
 

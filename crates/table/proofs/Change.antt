@@ -3,13 +3,13 @@ use Prim.Native.Nat.{ℕ, zero, suc, _<_}
 use mathlib.Core.Path.{_≡_, refl, sym, ap, _∙_}
 use mathlib.Core.List.{List, [], _∷_}
 use native.Mathlib.Omega.{arith}
-use lib.ListN.{length, set}
+use lib.ListN.{length, getD, set}
 use lib.Seq.{set-getD}
 use Rattle.wire.proofs.Lists.{getD-set-at}
-use Rattle.wire.proofs.Tabulate.{length-tabulate}
-use Rattle.machine.specs.State.{Task, Slot, unused, used, slotAt}
-use Rattle.table.specs.Table.{window, taskIn, held, slotsIn}
-use Rattle.table.specs.Change.{taskOr, taskAt, Used, changeSlot, change}
+use Rattle.wire.proofs.Tabulate.{length-tabulate, getD-tabulate}
+use Rattle.machine.specs.State.{Message, Task, Slot, unused, used, slotAt}
+use Rattle.table.specs.Table.{window, messageIn, taskIn, held, slotsIn}
+use Rattle.table.specs.Change.{noMessage, taskOr, taskAt, Used, changeSlot, change, opened}
 
 pub length-slots : (t : List ℕ) → length (slotsIn t) ≡ 16
 unfolding slotsIn
@@ -81,3 +81,13 @@ change-keeps p f same s ss j =
     kept : (x : Slot) → p (taskOr (changeSlot f x)) ≡ p (taskOr x)
     kept unused = refl
     kept (used t) = same t
+
+-- a mailbox that was opened
+module _ (n : ℕ) (label : ℕ → ℕ) (w : List ℕ) where
+  pub opened-length : length (opened n label w) ≡ n
+  unfolding opened
+  opened-length = length-tabulate n (λ i. record { label = label i; sender = messageIn w i .sender; value = messageIn w i .value })
+
+  pub opened-label : (i : ℕ) → i < n → getD (opened n label w) i noMessage .label ≡ label i
+  unfolding opened
+  opened-label i h = ap (λ (m : Message). m .label) (getD-tabulate n (λ i. record { label = label i; sender = messageIn w i .sender; value = messageIn w i .value }) i noMessage h)

@@ -6,5 +6,4 @@ pub mod Planes
 pub mod Ring
 pub mod Change
 pub mod Slots
-pub mod Held
 pub mod Mailbox

@@ -1,5 +1,5 @@
--- Laws of the mailbox of a used slot: one message more and one less, sets of its messages, and the oldest of them.
-use Prim.Native.Nat.{ℕ, suc, _+_, _*_, _-_, _/_, _%_, _^_, _<_, _≤_, min}
+-- Laws of the mailbox in a slot: one message more and one less, sets of its messages and the oldest of them, and a whole mailbox.
+use Prim.Native.Nat.{ℕ, suc, _+_, _*_, _-_, _^_, _<_, _≤_, min}
 use mathlib.Core.Path.{_≡_, refl, sym, ap, _∙_}
 use mathlib.Core.Logic.{_≢_}
 use mathlib.Core.Bool.{Bool, cond}
@@ -12,17 +12,17 @@ use lib.Count.{trailingZeros}
 use lib.ListN.{length, getD, set}
 use Rattle.wire.specs.Lists.{tabulate}
 use Rattle.wire.specs.Inner.{firstIndex, without}
-use Rattle.wire.proofs.Tabulate.{length-tabulate, getD-tabulate, take-tabulate, tabulate-set, tabulate-append, tabulate-without}
+use Rattle.wire.proofs.Tabulate.{length-tabulate, getD-tabulate, tabulate-same, take-tabulate, tabulate-set, tabulate-append, tabulate-without}
 use Rattle.label.specs.Label.{bit}
 use Rattle.planes.specs.Planes.{Bits, setOf, labelFrom}
 use Rattle.planes.proofs.Labels.{label-same}
 use Rattle.planes.proofs.Sets.{set-of-bits, first-set, first-take}
 use Rattle.machine.specs.State.{Message, withMailbox}
 use Rattle.table.specs.Table.{window, planeIn, messageIn, taskIn, slotsIn}
-use Rattle.table.specs.Change.{noMessage, taskAt, Used, change, withMessage, withoutMessage, withMail, Opened}
+use Rattle.table.specs.Change.{noMessage, taskAt, Used, change, withMessage, withoutMessage, withMail, opened}
 use Rattle.table.specs.Words.{SlotChanged, SlotStored, Planed, Mailed, With, Without}
 use Rattle.table.proofs.Window.{window-length}
-use Rattle.table.proofs.Message.{message-same}
+use Rattle.table.proofs.Message.{message-same, word-sender, word-value}
 use Rattle.table.proofs.Task.{count-stored, fields-kept}
 use Rattle.table.proofs.Change.{mail-used}
 use Rattle.table.proofs.Slots.{used-slot, mailbox-is, mailbox-read, frame-change}
@@ -61,12 +61,10 @@ mail-task : (w u : List ℕ) (i sender value : ℕ) → i < min (getD w 12 0) 64
 unfolding taskIn messageIn
 mail-task w u i sender value h small fits q =
     let n = min (getD w 12 0) 64 in
-    let s : (sender * 4294967296 + value) / 4294967296 % 256 ≡ sender = omega arith in
-    let v : (sender * 4294967296 + value) % 4294967296 ≡ value = omega arith in
     let others : (j : ℕ) → j < n → j ≢ i → messageIn u j ≡ messageIn w j
     = λ j l ne. message-same w u j j (λ b k. rw (q .planes b k)) (q .others j (omega arith) ne) in
     let this : messageIn u i ≡ record { label = messageIn w i .label; sender = sender; value = value }
-    = rw (label-same 4 (planeIn u) (planeIn w) i i (λ b k. rw (q .planes b k)), q .mail, s, v) in
+    = rw (label-same 4 (planeIn u) (planeIn w) i i (λ b k. rw (q .planes b k)), q .mail, word-sender sender value small fits, word-value sender value small fits) in
     fields-kept w u (λ k l. q .fields k (omega arith))
     ∙ ap (λ (ms : List Message). withMailbox ms (taskIn w))
     (tabulate-set n (messageIn w) (messageIn u) i others h ∙ ap (set (tabulate n (messageIn w)) i) (this ∙ rw (getD-tabulate n (messageIn w) i noMessage h)))
@@ -113,20 +111,22 @@ remove-slots t t₁ u s i n h count p q =
     frame-change t u s (used-slot t s here) (λ j l ne. q .other j l ne ∙ p .other j l ne) (withoutMessage i) (λ k. refl)
     (ap taskIn (q .here) ∙ remove-task (window t s) (window t₁ s) (window-length t₁ s) n (omega arith) i (omega arith) (p .here))
 
+-- ---- a whole mailbox
+
 -- the planes stored, and then the count
 pub open-slots : (t t₁ u : List ℕ) (s n : ℕ) (plane : ℕ → ℕ) → s < 16 → n ≤ 64 → SlotChanged s (Planed 4 (λ b x y. y ≡ plane b)) t t₁ → SlotStored s (λ v. set v 12 n) t₁ u
-    → Opened s n (labelFrom 4 plane) (slotsIn t) (slotsIn u)
-unfolding messageIn
+    → slotsIn u ≡ change s (withMailbox (opened n (labelFrom 4 plane) (window t s))) (slotsIn t)
+unfolding opened messageIn
 open-slots t t₁ u s n plane l many p q =
-    let w = window t₁ s in
+    let w = window t s in
+    let w₁ = window t₁ s in
     let all : min n 64 ≡ n = omega arith in
-    record {
-      messages = tabulate n (messageIn w);
-      many = length-tabulate n (messageIn w);
-      labels = λ i h. rw (getD-tabulate n (messageIn w) i noMessage h) (label-same 4 (planeIn w) plane i i (λ b k. ap (bit i) (p .here .changed b k)));
-      slots = frame-change t u s l (λ j k ne. q .other j k ne ∙ p .other j k ne) (withMailbox (tabulate n (messageIn w))) (λ k. refl)
-          (ap taskIn (q .here) ∙ mailbox-stored (window t s) w (window-length t₁ s) n (λ k h. p .here .fields k (omega arith)) ∙ rw all);
-    }
+    let each : (i : ℕ) → i < n → messageIn w₁ i ≡ record { label = labelFrom 4 plane i; sender = messageIn w i .sender; value = messageIn w i .value }
+    = λ i h. rw (label-same 4 (planeIn w₁) plane i i (λ b k. ap (bit i) (p .here .changed b k)), p .here .fields 13 (omega arith), p .here .ring) in
+    frame-change t u s l (λ j k ne. q .other j k ne ∙ p .other j k ne) (withMailbox (opened n (labelFrom 4 plane) w)) (λ k. refl)
+    (ap taskIn (q .here) ∙ mailbox-stored w w₁ (window-length t₁ s) n (λ k h. p .here .fields k (omega arith))
+    ∙ rw all (ap (λ (ms : List Message). withMailbox ms (taskIn w))
+    (tabulate-same n (λ i. record { label = labelFrom 4 plane i; sender = messageIn w i .sender; value = messageIn w i .value }) (messageIn w₁) each)))
 
 pub mail-slots : (t u : List ℕ) (s i sender value : ℕ) → i < length (taskAt (slotsIn t) s .mailbox) → sender < 256 → value < 4294967296
     → SlotChanged s (Mailed i (sender * 4294967296 + value)) t u → slotsIn u ≡ change s (withMail i sender value) (slotsIn t)

@@ -1,5 +1,5 @@
 -- Laws of the planes of a slot, changed one by one, and of a message whose words were stored.
-use Prim.Native.Nat.{ℕ, _+_, _*_, _/_, _%_, _<_, _≤_}
+use Prim.Native.Nat.{ℕ, _+_, _*_, _<_, _≤_}
 use mathlib.Core.Path.{_≡_, refl, _∙_}
 use mathlib.Core.Logic.{_≢_, dite}
 use mathlib.Core.List.{List}
@@ -13,7 +13,7 @@ use Rattle.machine.specs.State.{Message}
 use Rattle.table.specs.Table.{window, planeIn, ringIn, messageIn}
 use Rattle.table.specs.Words.{SlotChanged, SlotStored, Planed, Mailed, WithBit, WithoutBit, With, Closed, Without}
 use Rattle.table.proofs.Window.{window-length, changed-none, changed-then}
-use Rattle.table.proofs.Message.{message-same}
+use Rattle.table.proofs.Message.{message-same, word-sender, word-value}
 
 -- ---- one plane after another
 
@@ -46,15 +46,13 @@ pub message-with : (n : ℕ) (m : Message) (w w₁ u : List ℕ) → n < 64 → 
     → Mailed n (m .sender * 4294967296 + m .value) w w₁ → Planed 4 (WithBit n (m .label)) w₁ u → With n m w u
 unfolding messageIn
 message-with n m w w₁ u room label sender value q p =
-    let s : (m .sender * 4294967296 + m .value) / 4294967296 % 256 ≡ m .sender = omega arith in
-    let v : (m .sender * 4294967296 + m .value) % 4294967296 ≡ m .value = omega arith in
     let ring : (j : ℕ) → ringIn (getD u 13 0) u j ≡ ringIn (getD w₁ 13 0) w₁ j = λ j. rw (p .fields 13 (omega arith), p .ring) in
     record {
       fields = λ k h. p .fields k h ∙ q .fields k h;
       before = λ i h.
           message-same w u i i (λ b l. p .changed b l i (omega arith) ∙ rw (ne-eqb i n (λ e. omega arith), q .planes b l))
           (ring i ∙ q .others i (omega arith) (λ e. omega arith));
-      last = rw (label-is 4 (planeIn u) n (m .label) (omega arith) (λ b l. p .changed b l n room ∙ rw (eq-eqb n n refl)), ring n, q .mail, s, v);
+      last = rw (label-is 4 (planeIn u) n (m .label) (omega arith) (λ b l. p .changed b l n room ∙ rw (eq-eqb n n refl)), ring n, q .mail, word-sender (m .sender) (m .value) sender value, word-value (m .sender) (m .value) sender value);
     }
 
 -- ---- a message less

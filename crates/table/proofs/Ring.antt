@@ -1,4 +1,4 @@
--- Laws of the ring of messages: a word moved, one after another, and the gap that a message leaves closed.
+-- Laws of the ring of messages: a word stored, words moved one after another, and the gap that a message leaves closed.
 use Prim.Native.Nat.{ℕ, suc, _+_, _-_, _%_, _<_, _≤_}
 use mathlib.Core.Path.{_≡_, refl, sym, subst, _∙_}
 use mathlib.Core.Logic.{_≢_, dite}

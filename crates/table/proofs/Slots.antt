@@ -11,12 +11,13 @@ use lib.ListN.{length, getD, drop, set, List·getD-eq-default}
 use Rattle.wire.specs.Lists.{tabulate}
 use Rattle.wire.proofs.Lists.{split}
 use Rattle.wire.proofs.Tabulate.{length-tabulate, getD-tabulate, tabulate-set}
-use Rattle.machine.specs.State.{Task, Slot, unused, used, slotAt}
+use Rattle.machine.specs.State.{Task, Slot, unused, used, slotAt, withKind}
 use Rattle.table.specs.Table.{lowFour, window, messageIn, taskIn, held, slotsIn}
-use Rattle.table.specs.Change.{noMessage, taskOr, taskAt, Used, messageAt, changeSlot, change}
+use Rattle.table.specs.Change.{noMessage, taskOr, taskAt, Used, messageAt, changeSlot, change, slotWithKind}
 use Rattle.table.specs.Words.{SlotStored}
 use Rattle.table.proofs.Change.{length-slots, mail-used}
 use Rattle.table.proofs.Window.{window-length}
+use Rattle.table.proofs.Task.{kind-stored}
 
 slot-past : (t : List ℕ) (s : ℕ) → 16 ≤ s → slotAt (slotsIn t) s ≡ unused
 slot-past t s h = List·getD-eq-default (slotsIn t) unused (rw length-slots h)
@@ -111,3 +112,17 @@ module _ (t : List ℕ) (s : ℕ) where
   message-read i h =
       let here = mail-used (slotsIn t) s i h in
       rw (mailbox-is here) (getD-tabulate (min (getD (window t s) 12 0) 64) (messageIn (window t s)) i noMessage (omega (arith, mailbox-read here)))
+
+-- ---- the kind: a slot's task is there where its kind is not 0
+
+module _ (t u : List ℕ) (s x : ℕ) (small : x < 256) (p : SlotStored s (λ w. set w 0 x) t u) where
+  stored : taskIn (set (window t s) 0 x) ≡ withKind x (taskIn (window t s))
+  stored = kind-stored x (window t s) (window-length t s) small
+
+  pub kind-slots : Used s (slotsIn t) → slotsIn u ≡ set (slotsIn t) s (slotWithKind x (slotAt (slotsIn t) s))
+  kind-slots here =
+      let l = used-slot t s here in
+      slots-set p l (slotWithKind x (slotAt (slotsIn t) s)) (rw (here, used-task t s here, stored))
+
+  pub clear-slots : s < 16 → x ≡ 0 → slotsIn u ≡ set (slotsIn t) s unused
+  clear-slots l none = slots-set p l unused (rw (stored, none))

@@ -1,11 +1,12 @@
 -- What the table's functions read of the slots and change in them. An unused slot holds no task, and there is none above 15.
-use Prim.Native.Nat.{ℕ, _<_}
+use Prim.Native.Nat.{ℕ}
 use mathlib.Core.Path.{_≡_}
 use mathlib.Core.List.{List, [], _∷_, _++_}
-use lib.ListN.{length, getD, set, replicate}
+use lib.ListN.{getD, set, replicate}
+use Rattle.wire.specs.Lists.{tabulate}
 use Rattle.wire.specs.Inner.{without}
 use Rattle.machine.specs.State.{Message, Task, Slot, unused, used, slotAt, withKind, withMailbox}
-use Rattle.table.specs.Table.{held}
+use Rattle.table.specs.Table.{messageIn, held}
 
 -- ---- reading
 
@@ -53,17 +54,14 @@ withMessage m t = withMailbox (t .mailbox ++ (m ∷ [])) t
 abbrev pub withoutMessage : ℕ → Task → Task
 withoutMessage i t = withMailbox (without i (t .mailbox)) t
 
--- message i gets a sender and a value; its label stays
+-- message i gets a sender and a value, its mail; its label stays
 abbrev pub withMail : ℕ → ℕ → ℕ → Task → Task
 withMail i sender value t =
     withMailbox (set (t .mailbox) i (record { label = getD (t .mailbox) i noMessage .label; sender = sender; value = value })) t
 
--- the mailbox in slot s has n messages, of which the labels are known and nothing else
-pub record Opened (s n : ℕ) (label : ℕ → ℕ) (ss ss′ : List Slot) : Type 0 where
-  pub messages : List Message
-  pub many : length messages ≡ n
-  pub labels : (i : ℕ) → i < n → getD messages i noMessage .label ≡ label i
-  pub slots : ss′ ≡ change s (withMailbox messages) ss
+-- n messages with these labels; senders and values are those that a slot's words w have in the ring already
+unfoldable pub opened : ℕ → (ℕ → ℕ) → List ℕ → List Message
+opened n label w = tabulate n (λ i. record { label = label i; sender = messageIn w i .sender; value = messageIn w i .value })
 
 -- a task with registers 0 and no messages
 abbrev pub newTask : ℕ → ℕ → ℕ → ℕ → Task

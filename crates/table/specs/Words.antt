@@ -16,7 +16,7 @@ pub record SlotChanged (s : ℕ) (R : List ℕ → List ℕ → Type 0) (t u : L
   pub here : R (window t s) (window u s)
   pub other : (j : ℕ) → j < 16 → j ≢ s → window u j ≡ window t j
 
--- with f of the words there
+-- u is the table t with f of the words of slot s
 abbrev pub SlotStored : ℕ → (List ℕ → List ℕ) → List ℕ → List ℕ → Type 0
 SlotStored s f = SlotChanged s (λ w u. u ≡ f w)
 

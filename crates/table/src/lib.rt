@@ -11,11 +11,11 @@ ghost use Rattle.wire.specs.Inner.{firstIndex};
 ghost use Rattle.label.specs.Label.{bit, flows};
 ghost use Rattle.planes.specs.Planes.{Bits, setOf, labelFrom, planeOf};
 ghost use Rattle.machine.specs.Limits.{highestLabel};
-ghost use Rattle.machine.specs.State.{unused, slotAt, register, withLabel, withSpare, withPc, withRegister};
+ghost use Rattle.machine.specs.State.{unused, slotAt, register, withLabel, withSpare, withPc, withRegister, withMailbox};
 ghost use Rattle.machine.specs.Turn.{hasRoom};
 ghost use Rattle.table.specs.Table.{startWord, ringWord, slotWords, mailboxRoom, window, planeIn, ringIn, slotsIn, held};
 ghost use Rattle.table.specs.Words.{SlotChanged, SlotStored, cleared, Planed, WithBit, WithoutBit, Moved, Mailed, down, up, With, Closed, Without};
-ghost use Rattle.table.specs.Change.{Used, taskAt, messageAt, change, slotWithKind, withMessage, withoutMessage, withMail, Opened, newTask};
+ghost use Rattle.table.specs.Change.{Used, taskAt, messageAt, change, slotWithKind, withMessage, withoutMessage, withMail, opened, newTask};
 
 const SLOTS: usize = 16;
 
@@ -473,10 +473,12 @@ pub fn remove(t: &mut Table, s: usize, i: usize)
 
 // ---- a whole mailbox
 
-// The mailbox of slot s has n messages with these labels, in place of what it had. `set_mail` gives each its sender and its value.
+// The mailbox of slot s has n messages with these labels, in place of what it had. Their senders and values are what the ring holds,
+// until `set_mail` gives each its own.
 pub fn open_mailbox(t: &mut Table, s: usize, n: usize, labels: planes::LabelPlanes)
     requires { ⌜ (s < 16) × (n ≤ mailboxRoom) ⌝ }
-    ensures { λ _. ⌜ Opened s n (labelFrom 4 (planeOf labels)) (slotsIn (now (t .entry))) (slotsIn (now (t .exit))) ⌝ }
+    ensures { λ _. ⌜ slotsIn (now (t .exit))
+        ≡ change s (withMailbox (opened n (labelFrom 4 (planeOf labels)) (window (now (t .entry)) s))) (slotsIn (now (t .entry))) ⌝ }
 {
     put(t, s, PLANES, labels.first);
     put(t, s, PLANES + 1, labels.second);

@@ -2,7 +2,7 @@
 use mathlib.Core.Path.{refl}
 use native.Mathlib.Omega.{arith}
 use denote.Ref.{now}
-use Rattle.table.proofs.Held.{clear-slots}
+use Rattle.table.proofs.Slots.{clear-slots}
 use Rattle.table.proofs.clear.Statement.{statement}
 use Rattle.table.proofs.clear.Tie as tie
 

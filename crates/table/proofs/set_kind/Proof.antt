@@ -1,8 +1,7 @@
 -- `table::set_kind` meets its contract: the word that is stored is read as the kind alone.
 use native.Mathlib.Omega.{arith}
 use denote.Ref.{now}
-use Rattle.table.proofs.Held.{kind-slots}
-use Rattle.table.proofs.Slots.{used-slot}
+use Rattle.table.proofs.Slots.{used-slot, kind-slots}
 use Rattle.table.proofs.set_kind.Statement.{statement}
 use Rattle.table.proofs.set_kind.Tie as tie
 

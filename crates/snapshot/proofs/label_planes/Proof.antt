@@ -1,4 +1,4 @@
--- `snapshot::labels` meets its contract: the labels from message i on are gathered.
+-- `snapshot::label_planes` meets its contract: the labels from message i on are gathered.
 use Prim.Native.Nat.{ℕ, _+_, _*_, _-_, _/_, _≤_}
 use mathlib.Core.Path.{_≡_, ap, _∙_}
 use native.Mathlib.Omega.{arith}
@@ -8,8 +8,8 @@ use Rattle.planes.specs.Planes.{ahead, planesOf}
 use Rattle.planes.proofs.Gathered.{planes-fit}
 use Rattle.snapshot.specs.Loading.{labelsOf}
 use Rattle.snapshot.proofs.Loading.{labels-none, labels-next, labels-left}
-use Rattle.snapshot.proofs.labels.Statement.{statement}
-use Rattle.snapshot.proofs.labels.Tie as tie
+use Rattle.snapshot.proofs.label_planes.Statement.{statement}
+use Rattle.snapshot.proofs.label_planes.Tie as tie
 
 abbrev Inv-loop : tie.InvT-loop
 Inv-loop mailbox gathered₀ i₀ gathered i = (i ≤ length mailbox / 6) × (gathered ≡ planesOf (drop i (labelsOf mailbox)))
@@ -41,7 +41,7 @@ loop-again c =
 returns : tie.Need-returns Inv-loop μ-loop
 returns c = let e : c .before .loop .i ≡ 0 = omega arith in rw e at (c .before .loop .inv .1)
 
-pub labels-spec : {M : Type 1} → statement M
-labels-spec =
+pub label-planes-spec : {M : Type 1} → statement M
+label-planes-spec =
     tie.close
     (tie.spec Inv-loop μ-loop (λ c κs. tt) loop-holds (λ c. omega arith) (λ c. omega arith) (λ c κs. omega arith) ahead-requires (λ c. omega arith) loop-again returns)
