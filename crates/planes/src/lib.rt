@@ -39,7 +39,7 @@ pub fn has_four(set: u64) -> bool
 // ---- planes: bit i of plane b is bit b of the label of message i
 
 // Bit b of a label.
-fn label_bit(label: u8, b: usize) -> u64
+fn bit_of(label: u8, b: usize) -> u64
     requires { ⌜ b < 4 ⌝ }
     ensures { λ r. ⌜ r ≡ bit b label ⌝ }
 {
@@ -51,7 +51,7 @@ fn spread(label: u8, b: usize) -> u64
     requires { ⌜ b < 4 ⌝ }
     ensures { λ r. ⌜ Bits (λ i. bit b label) r ⌝ }
 {
-    std::num::wrapping_sub_u64(0, label_bit(label, b))
+    std::num::wrapping_sub_u64(0, bit_of(label, b))
 }
 
 // The messages whose bit in plane b is not the label's.
@@ -115,7 +115,7 @@ fn bit_ahead(plane: u64, label: u8, b: usize) -> u64
     requires { ⌜ (plane < 2 ^ 63) × (b < 4) ⌝ }
     ensures { λ r. ⌜ r ≡ bit b label + 2 * plane ⌝ }
 {
-    plane * 2 + label_bit(label, b)
+    plane * 2 + bit_of(label, b)
 }
 
 // The planes with a label ahead of theirs. All four go in and out by value, so that they stay in registers.

@@ -39,7 +39,7 @@ pub record GoesOn (s : ℕ) (ss : List Slot) : Type 0 where
 pub record Ready (s : ℕ) (ss : List Slot) : Type 0 where
   pub goes : GoesOn s ss
   pub spare : s + taskAt ss s .spare ≤ 15
-  pub room : (j l : ℕ) → l ≤ 15 → RoomFor l (taskAt ss j .mailbox)
+  pub room : (j l : ℕ) → l ≤ highestLabel → RoomFor l (taskAt ss j .mailbox)
 
 -- i was decoded from four bytes of some program, so its operands are within the table
 pub record WasDecoded (i : Instruction) : Type 0 where

@@ -10,7 +10,7 @@ returns : tie.Need-returns
 returns c =
     let a = c .before .before .args in
     bits-spread (c .wrapping-sub-u64 .result) (bit (a .b) (a .label)) (c .wrapping-sub-u64 .ok) (bit-lt (a .b) (a .label))
-    (rw (c .before .label-bit .ensures) at (c .wrapping-sub-u64 .ensures))
+    (rw (c .before .bit-of .ensures) at (c .wrapping-sub-u64 .ensures))
 
 pub spread-spec : {M : Type 1} → statement M
 spread-spec = tie.close (tie.spec (λ c. search needs) (λ c κs. search needs) returns)
