@@ -173,7 +173,7 @@ pub fn post(image: &[u8], slot: u32, label: u32, value: u32, out: &mut [u8]) -> 
     if number == 0 {
         let mut table: table::Table = [0; table::WORDS];
         snapshot::load(&mut table, image);
-        let joined = turn::deliver(&mut table, slot, label as u8, image::HOST, value);
+        let joined = effect::deliver(&mut table, slot, label as u8, image::HOST, value);
         let turn = image::turn_slot(image);
         post_answer(write_answer(out, &table, image, turn, 15, 0), joined)
     } else {

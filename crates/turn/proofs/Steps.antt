@@ -25,8 +25,8 @@ use Rattle.machine.proofs.Mailbox.{mailbox-room}
 use Rattle.machine.proofs.Machine.{turns-valid, turns-none, turns-more, turns-add, busy-none, busy-more, busy-add}
 use Rattle.machine.proofs.Bounds.{turns-within, turns-idle}
 use Rattle.table.specs.Change.{taskOr, taskAt, Used, slotWithKind}
-use Rattle.turn.specs.Effects.{executed, RoomFor, Ready, WasDecoded}
-use Rattle.turn.proofs.Effects.{kind-here}
+use Rattle.effect.specs.Effects.{executed, RoomFor, Ready, WasDecoded}
+use Rattle.effect.proofs.Effects.{kind-here}
 
 -- a mailbox of a valid state has room in the table where it has fewer than four messages of a label
 pub valid-room : {s : State} → Valid s → (j l : ℕ) → l ≤ 15 → RoomFor l (taskAt (s .slots) j .mailbox)

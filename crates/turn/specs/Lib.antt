@@ -1,3 +1,2 @@
 -- The definitions of the crate `turn`, a file each.
-pub mod Effects
 pub mod Answer

@@ -1,0 +1,2 @@
+-- The definitions of the crate `effect`, a file each.
+pub mod Effects
