@@ -33,7 +33,7 @@ installed := include/rithennaw.h lib/librithennaw.a lib/pkgconfig/rithennaw.pc b
 .NOTPARALLEL:
 .PHONY: all lib check test link-test rust-test examples demo differential bench install uninstall fmt clean help
 
-# slotsheet first: rt check proves crates side by side, and rt staticlib one after the other.
+# slotsheet first: its rt check proves all crates, side by side, where rt staticlib would prove them one after the other.
 all: $(slotsheet) $(archive) ## prove and build the archive and the program slotsheet
 
 lib: $(archive) ## prove and build the archive for C and Rust, target/staticlib/librithennaw.a
@@ -43,7 +43,7 @@ $(archive): $(sources)
 
 # rt leaves a program alone that has not changed, so its time is set here.
 $(slotsheet): $(sources)
-	@$(prove) check slotsheet
+	@$(prove) check
 	@touch $@
 
 check: ## prove what has changed since the last check

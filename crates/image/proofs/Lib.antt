@@ -3,7 +3,5 @@ pub mod Refusal
 pub mod Records
 pub mod Slots
 pub mod Walk
-pub mod Mail
-pub mod Spares
 pub mod Image
 pub mod Examples

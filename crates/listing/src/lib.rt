@@ -127,7 +127,7 @@ fn lines_number(program: &[u8], lines: usize, bytes: bool) -> u8
 {
     if (1 <= lines) & (lines <= 256) {
         if bytes {
-            image::instructions_number(wire::take(program, 4 * lines))
+            judge::instructions_number(wire::take(program, 4 * lines))
         } else {
             6
         }
@@ -171,7 +171,7 @@ fn part_number(program: &[u8]) -> u8
     ensures { λ r. ⌜ r ≡ partNumber (now (program .entry)) ⌝ }
 {
     if image::is_program_length(program.len()) {
-        image::instructions_number(program)
+        judge::instructions_number(program)
     } else {
         5
     }

@@ -29,7 +29,7 @@ pub struct PostAnswer {
 pub fn check(image: &[u8]) -> u8
     ensures { λ r. ⌜ r ≡ imageNumber (now (image .entry)) ⌝ }
 {
-    image::number(image)
+    judge::number(image)
 }
 
 // The record of a slot, as the part of the image that holds it: no bytes for an unused slot, a slot above 15 or a refused
@@ -38,14 +38,14 @@ pub fn record(image: &[u8], slot: u32) -> &[u8]
     ensures { λ r. ⌜ (now r ≡ recordPart (now (image .entry)) slot)
         × (ptr r ≡ offsetBy (recordExtent (now (image .entry)) slot .start) (ptr (image .entry))) ⌝ }
 {
-    image::record(image, slot as usize)
+    judge::record(image, slot as usize)
 }
 
 // Where that part stands in the image: start and length both 0 where it is empty.
 pub fn record_extent(image: &[u8], slot: u32) -> image::Extent
     ensures { λ r. ⌜ r ≡ recordExtent (now (image .entry)) slot ⌝ }
 {
-    image::record_extent(image, slot as usize)
+    judge::record_extent(image, slot as usize)
 }
 
 // What a refused call tells.
@@ -98,10 +98,10 @@ pub fn view(image: &[u8], observer: u32, out: &mut [u8]) -> Answer
     if observer > 15 {
         return refused(1);
     }
-    let number = image::number(image);
+    let number = judge::number(image);
     if number == 0 {
         let mut table: table::Table = [0; table::WORDS];
-        snapshot::load(&mut table, image);
+        loader::load(&mut table, image);
         let turn = image::turn_slot(image);
         write_answer(out, &table, image, turn, observer as u8, 0)
     } else {
@@ -126,10 +126,10 @@ pub fn turns(image: &[u8], count: u64, out: &mut [u8]) -> Answer
     if count > TURN_LIMIT {
         return refused(2);
     }
-    let number = image::number(image);
+    let number = judge::number(image);
     if number == 0 {
         let mut table: table::Table = [0; table::WORDS];
-        snapshot::load(&mut table, image);
+        loader::load(&mut table, image);
         let turn = image::turn_slot(image);
         let ran = turn::turns(&mut table, image::program(image), turn, count);
         write_answer(out, &table, image, ran.turn, 15, ran.busy)
@@ -169,10 +169,10 @@ pub fn post(image: &[u8], slot: u32, label: u32, value: u32, out: &mut [u8]) -> 
     if beyond > 0 {
         return post_answer(refused(beyond), false);
     }
-    let number = image::number(image);
+    let number = judge::number(image);
     if number == 0 {
         let mut table: table::Table = [0; table::WORDS];
-        snapshot::load(&mut table, image);
+        loader::load(&mut table, image);
         let joined = effect::deliver(&mut table, slot, label as u8, image::HOST, value);
         let turn = image::turn_slot(image);
         post_answer(write_answer(out, &table, image, turn, 15, 0), joined)

@@ -97,10 +97,10 @@ pub fn write(image: &[u8], observer: u32, out: &mut [u8]) -> monitor::Answer
     if observer > 15 {
         return monitor::refused(1);
     }
-    let number = image::number(image);
+    let number = judge::number(image);
     if number == 0 {
         let mut table: table::Table = [0; table::WORDS];
-        snapshot::load(&mut table, image);
+        loader::load(&mut table, image);
         write_answer(out, &table, observer as u8)
     } else {
         monitor::refused(number)

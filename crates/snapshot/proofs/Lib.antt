@@ -1,3 +1,2 @@
 -- The laws of the crate `snapshot`, a file each.
-pub mod Loading
 pub mod Writing

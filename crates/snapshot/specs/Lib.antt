@@ -1,3 +1,2 @@
 -- The definitions of the crate `snapshot`, a file each.
-pub mod Loading
 pub mod Writing

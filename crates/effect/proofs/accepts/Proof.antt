@@ -1,4 +1,4 @@
--- `turn::accepts` meets its contract: a slot, a live task in it, and then room.
+-- `effect::accepts` meets its contract: a slot, a live task in it, and then room.
 use mathlib.Core.Path.{_∙_}
 use native.Mathlib.Omega.{arith}
 use denote.Ref.{now}

@@ -1,4 +1,4 @@
--- `turn::add` meets its contract.
+-- `effect::add` meets its contract.
 use Rattle.effect.proofs.Effects.{add-done, sound}
 use Rattle.effect.proofs.add.Statement.{statement}
 use Rattle.effect.proofs.add.Tie as tie

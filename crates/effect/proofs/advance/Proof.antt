@@ -1,4 +1,4 @@
--- `turn::advance` meets its contract: the place is read, and written again with 1 more.
+-- `effect::advance` meets its contract: the place is read, and written again with 1 more.
 use native.Mathlib.Omega.{arith}
 use Rattle.table.proofs.Slots.{used-slot}
 use Rattle.effect.proofs.Effects.{place-up}

@@ -1,4 +1,4 @@
--- `turn::copy` meets its contract.
+-- `effect::copy` meets its contract.
 use Rattle.effect.proofs.Effects.{copy-done, sound}
 use Rattle.effect.proofs.copy.Statement.{statement}
 use Rattle.effect.proofs.copy.Tie as tie

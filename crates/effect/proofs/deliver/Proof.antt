@@ -1,4 +1,4 @@
--- `turn::deliver` meets its contract: the message joins where the slot accepts it.
+-- `effect::deliver` meets its contract: the message joins where the slot accepts it.
 use mathlib.Core.Path.{sym, _∙_}
 use denote.Ref.{now}
 use Rattle.table.specs.Table.{slotsIn}

@@ -1,4 +1,4 @@
--- `turn::execute` meets its contract. An arm has a line for its operands, one for what its effect asks, and one for what it does.
+-- `effect::execute` meets its contract. An arm has a line for its operands, one for what its effect asks, and one for what it does.
 use borrow.Author.Needs.{needs}
 use Rattle.table.proofs.Slots.{used-slot}
 use Rattle.effect.proofs.Effects.{decoded-as, sound, by-form}

@@ -1,4 +1,4 @@
--- `turn::gets` meets its contract: the place, then the register.
+-- `effect::gets` meets its contract: the place, then the register.
 use Rattle.table.proofs.Change.{change-change}
 use Rattle.table.proofs.Slots.{used-slot}
 use Rattle.effect.proofs.gets.Statement.{statement}

@@ -1,4 +1,4 @@
--- `turn::identity` meets its contract: register a first.
+-- `effect::identity` meets its contract: register a first.
 use mathlib.Core.Path.{refl}
 use native.Mathlib.Omega.{arith}
 use Rattle.machine.specs.State.{withRegister}

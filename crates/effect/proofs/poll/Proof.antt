@@ -1,4 +1,4 @@
--- `turn::poll` meets its contract: as take, and the place where nothing is receivable.
+-- `effect::poll` meets its contract: as take, and the place where nothing is receivable.
 use mathlib.Core.Path.{sym, _∙_}
 use Rattle.table.proofs.Slots.{used-slot}
 use Rattle.effect.proofs.Effects.{poll-some, poll-none, sound}

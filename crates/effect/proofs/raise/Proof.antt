@@ -1,4 +1,4 @@
--- `turn::raise` meets its contract: the label, then the place.
+-- `effect::raise` meets its contract: the label, then the place.
 use mathlib.Core.Path.{refl}
 use Rattle.machine.specs.State.{withLabel}
 use Rattle.table.proofs.Change.{change-change}

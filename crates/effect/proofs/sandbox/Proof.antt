@@ -1,4 +1,4 @@
--- `turn::sandbox` meets its contract: the parent's change, then the child.
+-- `effect::sandbox` meets its contract: the parent's change, then the child.
 use mathlib.Core.Path.{refl}
 use native.Mathlib.Omega.{arith}
 use Rattle.machine.specs.State.{withSpare}

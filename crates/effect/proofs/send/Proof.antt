@@ -1,4 +1,4 @@
--- `turn::send` meets its contract: the place, then the message.
+-- `effect::send` meets its contract: the place, then the message.
 use Prim.Native.Nat.{ℕ}
 use mathlib.Core.Path.{_≡_, refl, sym, _∙_}
 use mathlib.Core.List.{List}

@@ -1,4 +1,4 @@
--- `turn::spawn` meets its contract: a new task, then its register 0.
+-- `effect::spawn` meets its contract: a new task, then its register 0.
 use native.Mathlib.Omega.{arith}
 use Rattle.table.proofs.Change.{change-set}
 use Rattle.effect.proofs.spawn.Statement.{statement}

@@ -1,4 +1,4 @@
--- `turn::subtract` meets its contract.
+-- `effect::subtract` meets its contract.
 use native.Mathlib.Omega.{arith}
 use Rattle.effect.proofs.Effects.{subtract-done, sound}
 use Rattle.effect.proofs.subtract.Statement.{statement}

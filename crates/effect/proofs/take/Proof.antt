@@ -1,4 +1,4 @@
--- `turn::take` meets its contract: the first index at which a message is receivable.
+-- `effect::take` meets its contract: the first index at which a message is receivable.
 use native.Mathlib.Omega.{arith}
 use Rattle.effect.proofs.Effects.{take-some, take-none}
 use Rattle.effect.proofs.take.Statement.{statement}

@@ -1,4 +1,4 @@
--- `turn::take_message` meets its contract: the message goes, then the registers and the place change.
+-- `effect::take_message` meets its contract: the message goes, then the registers and the place change.
 use mathlib.Core.Path.{refl}
 use native.Mathlib.Omega.{arith}
 use Rattle.machine.specs.State.{withRegister}

@@ -1,4 +1,4 @@
--- `turn::zero` meets its contract.
+-- `effect::zero` meets its contract.
 use Rattle.table.proofs.Slots.{used-slot}
 use Rattle.effect.proofs.Effects.{zero-jumps, zero-goes-on, sound}
 use Rattle.effect.proofs.zero.Statement.{statement}

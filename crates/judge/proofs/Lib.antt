@@ -1,0 +1,3 @@
+-- The laws of the crate `judge`, a file each.
+pub mod Mail
+pub mod Spares

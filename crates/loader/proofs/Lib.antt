@@ -1,0 +1,2 @@
+-- The laws of the crate `loader`, a file each.
+pub mod Loading

@@ -1,0 +1,2 @@
+-- The definitions of the crate `loader`, a file each.
+pub mod Loading
