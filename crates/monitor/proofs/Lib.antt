@@ -1,7 +1,6 @@
 -- The laws of the crate `monitor`, a file each.
 pub mod Calls
 pub mod Posts
-pub mod Pipeline
 pub mod Secrecy
 pub mod Claims
 pub mod Examples

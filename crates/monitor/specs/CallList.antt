@@ -79,7 +79,7 @@ pub record Agree (v : ℕ) (calls calls′ : List HostCall) : Type 0 where
   pub turns : turnsCarriedOut calls ≡ turnsCarriedOut calls′
   pub posts : visiblePosts v calls ≡ visiblePosts v calls′
 
--- ---- all that is known of how the calls went: each kept the promise of `monitor::turns` or `monitor::post` for the image that it
+-- ---- all that is known of how the calls went: each kept the promise of `calls::turns` or `calls::post` for the image that it
 -- was given
 
 abbrev pub requestCall : Request → List ℕ → Call

@@ -18,7 +18,7 @@ ghost use Rattle.rithennaw.specs.Told.{Told};
 pub extern "C" fn rithennaw_check(image: &[u8]) -> u8
     ensures { λ r. ⌜ (r ≡ imageNumber (now (image .entry))) × Bytes (now (image .entry)) ⌝ }
 {
-    monitor::check(image)
+    calls::check(image)
 }
 
 // Where the record of a slot stands in the image: start and length both 0 where it has none.
@@ -27,7 +27,7 @@ pub extern "C" fn rithennaw_record(image: &[u8], slot: u32, start: &mut usize, l
     ensures { λ _. ⌜ (now (start .exit) ≡ recordExtent (now (image .entry)) slot .start)
         × (now (length .exit) ≡ recordExtent (now (image .entry)) slot .length) ⌝ }
 {
-    let extent = monitor::record_extent(image, slot);
+    let extent = calls::record_extent(image, slot);
     *start = extent.start;
     *length = extent.length;
 }
@@ -37,7 +37,7 @@ pub extern "C" fn rithennaw_record(image: &[u8], slot: u32, start: &mut usize, l
 pub extern "C" fn rithennaw_rewrite(image: &[u8], out: &mut [u8], length: &mut usize) -> u8
     ensures { λ r. ⌜ Told (now (image .entry)) (rewriteCall (now (image .entry))) (now (out .entry)) r (now (length .exit)) (now (out .exit)) ⌝ }
 {
-    let rewritten = monitor::rewrite(image, out);
+    let rewritten = calls::rewrite(image, out);
     *length = rewritten.length;
     rewritten.number
 }
@@ -54,7 +54,7 @@ pub extern "C" fn rithennaw_turns(
     ensures { λ r. ⌜ Told (now (image .entry)) (turnsCall count (now (image .entry))) (now (out .entry)) r (now (length .exit)) (now (out .exit))
         × (now (busy .exit) ≡ callAnswer (turnsCall count (now (image .entry))) (now (out .entry)) .busy) ⌝ }
 {
-    let turned = monitor::turns(image, count, out);
+    let turned = calls::turns(image, count, out);
     *length = turned.length;
     *busy = turned.busy;
     turned.number
@@ -76,7 +76,7 @@ pub extern "C" fn rithennaw_post(
         × (now (delivered .exit) ≡ cond (postDelivered slot label value (now (image .entry)) (now (out .entry))) 1 0)
         × Fits (askPost slot label value) ⌝ }
 {
-    let posted = monitor::post(image, slot, label, value, out);
+    let posted = calls::post(image, slot, label, value, out);
     *length = posted.answer.length;
     *delivered = posted.delivered as u8;
     posted.answer.number
@@ -92,7 +92,7 @@ pub extern "C" fn rithennaw_view(
 ) -> u8
     ensures { λ r. ⌜ Told (now (image .entry)) (viewCall observer (now (image .entry))) (now (out .entry)) r (now (length .exit)) (now (out .exit)) ⌝ }
 {
-    let viewed = monitor::view(image, observer, out);
+    let viewed = calls::view(image, observer, out);
     *length = viewed.length;
     viewed.number
 }

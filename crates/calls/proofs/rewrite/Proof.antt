@@ -1,11 +1,11 @@
--- `monitor::rewrite` meets its contract: the view for label 15.
+-- `calls::rewrite` meets its contract: the view for label 15.
 use borrow.Author.Needs.{needs}
 use mathlib.Core.Path.{_∙_}
 use denote.Ref.{now}
 use Rattle.wire.proofs.Lists.{IsByte, every-of}
-use Rattle.monitor.proofs.Pipeline.{view-rewrites}
-use Rattle.monitor.proofs.rewrite.Statement.{statement}
-use Rattle.monitor.proofs.rewrite.Tie as tie
+use Rattle.calls.proofs.Pipeline.{view-rewrites}
+use Rattle.calls.proofs.rewrite.Statement.{statement}
+use Rattle.calls.proofs.rewrite.Tie as tie
 
 returns : tie.Need-returns
 returns c =

@@ -1,10 +1,10 @@
--- `monitor::write_answer` meets its contract: what is told is told of the length that was written, or would have been.
+-- `calls::write_answer` meets its contract: what is told is told of the length that was written, or would have been.
 use borrow.Author.Needs.{needs}
 use denote.Ref.{now}
 use Rattle.snapshot.specs.Writing.{snapshotBytes}
 use Rattle.monitor.proofs.Calls.{told-written}
-use Rattle.monitor.proofs.write_answer.Statement.{statement}
-use Rattle.monitor.proofs.write_answer.Tie as tie
+use Rattle.calls.proofs.write_answer.Statement.{statement}
+use Rattle.calls.proofs.write_answer.Tie as tie
 
 returns : tie.Need-returns
 returns c =

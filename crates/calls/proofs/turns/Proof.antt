@@ -1,4 +1,4 @@
--- `monitor::turns` meets its contract: an accepted image is loaded, its turns are carried out, and it is written for label 15.
+-- `calls::turns` meets its contract: an accepted image is loaded, its turns are carried out, and it is written for label 15.
 use borrow.Author.Needs.{needs}
 use Prim.Native.Nat.{ℕ}
 use mathlib.Core.Path.{_≡_, sym, ap, _∙_}
@@ -17,10 +17,10 @@ use Rattle.table.specs.Table.{stateIn}
 use Rattle.snapshot.specs.Writing.{snapshotBytes}
 use Rattle.turn.specs.declared.RunAnswer.{RunAnswer}
 use Rattle.turn.specs.Answer.{runTold}
 use Rattle.monitor.proofs.Calls.{call-beyond, call-refused, call-accepted}
-use Rattle.monitor.proofs.Pipeline.{state-loaded, loaded-valid, turns-written}
-use Rattle.monitor.proofs.turns.Statement.{statement}
-use Rattle.monitor.proofs.turns.Tie as tie
+use Rattle.calls.proofs.Pipeline.{state-loaded, loaded-valid, turns-written}
+use Rattle.calls.proofs.turns.Statement.{statement}
+use Rattle.calls.proofs.turns.Tie as tie
 
 -- ---- where an image that is accepted is loaded and run
 

@@ -1,4 +1,4 @@
--- `monitor::post` meets its contract: an accepted image is loaded, the message is delivered or dropped, and it is written for label 15.
+-- `calls::post` meets its contract: an accepted image is loaded, the message is delivered or dropped, and it is written for label 15.
 use borrow.Author.Needs.{needs}
 use Prim.Native.Nat.{ℕ, _^_, _<_, _≤_}
 use mathlib.Core.Logic.{_≢_}
@@ -20,11 +20,11 @@ use Rattle.table.specs.Table.{slotsIn}
 use Rattle.snapshot.specs.Writing.{snapshotBytes}
 use Rattle.turn.proofs.Steps.{valid-room}
 use Rattle.image.proofs.Image.{accepted-valid}
 use Rattle.monitor.proofs.Calls.{post-within, call-beyond, call-refused, call-accepted}
 use Rattle.monitor.proofs.Posts.{post-told, post-refused}
-use Rattle.monitor.proofs.Pipeline.{post-written}
-use Rattle.monitor.proofs.post.Statement.{statement}
-use Rattle.monitor.proofs.post.Tie as tie
+use Rattle.calls.proofs.Pipeline.{post-written}
+use Rattle.calls.proofs.post.Statement.{statement}
+use Rattle.calls.proofs.post.Tie as tie
 
 no-number : {k n : ℕ} → k ≡ n → k ≤ 0 → n ≡ 0
 no-number e low = omega (arith, e)

@@ -1,4 +1,4 @@
--- `monitor::view` meets its contract: an accepted image is loaded, and written for the observer.
+-- `calls::view` meets its contract: an accepted image is loaded, and written for the observer.
 use borrow.Author.Needs.{needs}
 use Prim.Native.Nat.{ℕ}
 use mathlib.Core.Path.{_≡_, refl, sym, ap, _∙_}
@@ -8,10 +8,10 @@ use denote.Ref.{now}
 use Rattle.machine.specs.Limits.{highestLabel}
 use Rattle.image.specs.Refusal.{imageNumber}
 use Rattle.snapshot.specs.Writing.{snapshotBytes}
 use Rattle.monitor.proofs.Calls.{call-beyond, call-refused, call-accepted}
-use Rattle.monitor.proofs.Pipeline.{view-written}
-use Rattle.monitor.proofs.view.Statement.{statement}
-use Rattle.monitor.proofs.view.Tie as tie
+use Rattle.calls.proofs.Pipeline.{view-written}
+use Rattle.calls.proofs.view.Statement.{statement}
+use Rattle.calls.proofs.view.Tie as tie
 
 -- an observer above 15
 returns : tie.Need-returns

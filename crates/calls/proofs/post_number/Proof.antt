@@ -1,9 +1,9 @@
--- `monitor::post_number` meets its contract: the slot first, then the label.
+-- `calls::post_number` meets its contract: the slot first, then the label.
 use native.Mathlib.Omega.{arith}
 use borrow.Author.Tests.{le-leb, lt-leb}
 use Rattle.machine.specs.Limits.{highestLabel, highestSlot}
-use Rattle.monitor.proofs.post_number.Statement.{statement}
-use Rattle.monitor.proofs.post_number.Tie as tie
+use Rattle.calls.proofs.post_number.Statement.{statement}
+use Rattle.calls.proofs.post_number.Tie as tie
 
 returns : tie.Need-returns
 returns c = rw (lt-leb (c .before .args .slot) highestSlot (omega arith))

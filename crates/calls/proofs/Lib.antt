@@ -1,0 +1,3 @@
+-- The laws of the crate `calls`, a file each.
+pub mod Pipeline
+pub mod Promises

@@ -1,7 +1,0 @@
--- `monitor::post_answer` meets its contract: delivered by both tests.
-use mathlib.Core.Path.{refl}
-use Rattle.monitor.proofs.post_answer.Statement.{statement}
-use Rattle.monitor.proofs.post_answer.Tie as tie
-
-pub post-answer-spec : {M : Type 1} → statement M
-post-answer-spec = tie.close (tie.spec (λ c. refl))
