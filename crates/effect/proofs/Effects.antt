@@ -16,11 +16,16 @@ use Rattle.wire.specs.Inner.{without, firstIndex}
 use Rattle.wire.proofs.Lists.{and-both, first-none, first-some, first-without}
 use Rattle.instruction.specs.declared.Instruction.{Instruction}
 use Rattle.instruction.specs.declared.Instruction.the-variants.{End, Set, Copy, Add, Subtract, Go, Zero, Raise, Send, Take, Poll, Sandbox, Identity}
+use Rattle.instruction.specs.Program.{count}
 use Rattle.instruction.proofs.Table.{Sound, decode-sound}
-use Rattle.machine.specs.State.{Message, Task, Slot, unused, used, slotAt, isLive, hasLiveTask, withLabel, withSpare, withPc, register, withRegister, next}
+use Rattle.machine.specs.Limits.{highestLabel}
+use Rattle.machine.specs.State.{Message, Task, Slot, unused, used, State, slotAt, isLive, hasLiveTask, withLabel, withSpare, withPc, register, withRegister, next}
 use Rattle.machine.specs.Effect.{Action, noAction, deliver, spawn, Outcome, withoutAction, stopped, childOf, receivable, oldest, taken, execute}
 use Rattle.machine.specs.Turn.{hasRoom, enqueue, perform, applied}
 use Rattle.machine.specs.Post.{mailOf, hasMore}
+use Rattle.machine.specs.Valid.{Valid}
+use Rattle.machine.proofs.Rules.{SlotFacts, slot-facts}
+use Rattle.machine.proofs.Mailbox.{mailbox-room}
 use Rattle.machine.proofs.Post.{deliver-more}
 use Rattle.table.specs.Change.{noMessage, taskOr, taskAt, Used, messageAt, changeSlot, change, slotWithKind, withMessage, withoutMessage}
 use Rattle.table.proofs.Change.{change-same, change-none, change-set, change-at, change-here}
@@ -176,6 +181,14 @@ module _ {s : ℕ} {ss : List Slot} (ready : Ready s ss) where
     sandbox-stopped few = stops (Sandbox a b c) 5 refl (rw (← has, lt-leb c spare few))
 
 -- ---- a message delivered to a slot
+
+-- a mailbox of a valid state has room in the table where it has fewer than four messages of a label
+pub valid-room : {s : State} → Valid s → (j l : ℕ) → l ≤ highestLabel → RoomFor l (taskAt (s .slots) j .mailbox)
+valid-room {s} ok j = roomy (slotAt (s .slots) j) (slot-facts (count (s .program)) j (slotAt (s .slots) j) (ok .tasks j))
+  where
+    roomy : (x : Slot) → SlotFacts (count (s .program)) j x → (l : ℕ) → l ≤ highestLabel → RoomFor l (taskOr x .mailbox)
+    roomy unused f l h = (h, λ room. omega arith)
+    roomy (used t) f l h = (h, mailbox-room (t .mailbox) (f .mailbox) l h)
 
 -- a slot that accepts a message has room for it in the table
 pub accepts-room : (ss : List Slot) (to l : ℕ) → accepts l (slotAt ss to) ≡ true → RoomFor l (taskAt ss to .mailbox) → Used to ss × (length (taskAt ss to .mailbox) < 64)

@@ -1,4 +1,4 @@
--- A definition for the contract of a function that is no call: no claim and no call's promise reaches it.
+-- A definition for the contract of `judge::from_slot`, which is no call: no claim and no call's promise reaches it.
 use Prim.Native.Nat.{ℕ}
 use mathlib.Core.Bool.{cond, _&&_}
 use mathlib.Core.List.{List, []}

@@ -20,21 +20,12 @@ use Rattle.machine.specs.Turn.{applied, current}
 use Rattle.machine.specs.Valid.{Valid}
 use Rattle.machine.specs.Machine.{turns, busy}
 use Rattle.machine.specs.Inner.{Within}
-use Rattle.machine.proofs.Rules.{TaskFacts, SlotFacts, size-facts, slot-facts}
-use Rattle.machine.proofs.Mailbox.{mailbox-room}
+use Rattle.machine.proofs.Rules.{TaskFacts, size-facts, slot-facts}
 use Rattle.machine.proofs.Machine.{turns-valid, turns-none, turns-more, turns-add, busy-none, busy-more, busy-add}
 use Rattle.machine.proofs.Bounds.{turns-within, turns-idle}
 use Rattle.table.specs.Change.{taskOr, taskAt, Used, slotWithKind}
-use Rattle.effect.specs.Effects.{executed, RoomFor, Ready, WasDecoded}
-use Rattle.effect.proofs.Effects.{kind-here}
-
--- a mailbox of a valid state has room in the table where it has fewer than four messages of a label
-pub valid-room : {s : State} → Valid s → (j l : ℕ) → l ≤ 15 → RoomFor l (taskAt (s .slots) j .mailbox)
-valid-room {s} ok j = roomy (slotAt (s .slots) j) (slot-facts (count (s .program)) j (slotAt (s .slots) j) (ok .tasks j))
-  where
-    roomy : (x : Slot) → SlotFacts (count (s .program)) j x → (l : ℕ) → l ≤ 15 → RoomFor l (taskOr x .mailbox)
-    roomy unused f l h = (h, λ room. omega arith)
-    roomy (used t) f l h = (h, mailbox-room (t .mailbox) (f .mailbox) l h)
+use Rattle.effect.specs.Effects.{executed, Ready, WasDecoded}
+use Rattle.effect.proofs.Effects.{kind-here, valid-room}
 
 -- ---- what a live task does with its turn
 

@@ -18,7 +18,7 @@ use Rattle.image.specs.Image.{stateOf}
 use Rattle.image.specs.Refusal.{postNumber, imageNumber}
 use Rattle.table.specs.Table.{slotsIn}
 use Rattle.snapshot.specs.Writing.{snapshotBytes}
-use Rattle.turn.proofs.Steps.{valid-room}
+use Rattle.effect.proofs.Effects.{valid-room}
 use Rattle.image.proofs.Image.{accepted-valid}
 use Rattle.monitor.proofs.Calls.{post-within, call-beyond, call-refused, call-accepted}
 use Rattle.monitor.proofs.Posts.{post-told, post-refused}
