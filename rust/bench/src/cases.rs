@@ -20,12 +20,13 @@ pub struct Case {
 /// The most that the monitor's time may be as a multiple of the reference's, in each case.
 pub const AIM: f64 = 0.9;
 
-/// All cases, in the order in which they are printed: each kind in two workloads, so that no single image is tuned for.
+/// All cases, in the order in which they are printed: each kind in two workloads, so that no single image is tuned for,
+/// and beside the full mailboxes one in which every message is dropped.
 pub fn cases() -> Vec<Case> {
     full_cases().into_iter().chain(light_cases()).collect()
 }
 
-fn full_cases() -> [Case; 4] {
+fn full_cases() -> [Case; 5] {
     let case = |name, image, mail| Case { name, image, live: 16, late: 0, mail };
     [
         case(
@@ -38,6 +39,7 @@ fn full_cases() -> [Case; 4] {
             full_mailboxes::between_hidden_mail(),
             640..=800,
         ),
+        case("16 tasks, mailboxes full, every message dropped", full_mailboxes::nothing_received(), 1024..=1024),
         case("16 tasks, 8 mailboxes full, all messages receivable", full_mailboxes::eight_receivers(), 400..=512),
         case("16 tasks, 12 mailboxes full, all messages receivable", full_mailboxes::twelve_receivers(), 600..=768),
     ]
@@ -112,10 +114,16 @@ mod tests {
     }
 
     #[test]
-    fn sixty_hidden_messages_lie_in_front() {
+    fn sixty_hidden_messages_lie_in_front_and_none_is_dropped() {
         let tally = tally("60 messages hidden");
-        assert!(tally.delivered > 0 && !tally.received.is_empty());
+        assert!(tally.delivered > 0 && tally.dropped == 0 && !tally.received.is_empty());
         assert!(tally.received.iter().all(|received| received.in_front == 60));
+    }
+
+    #[test]
+    fn where_nothing_is_received_every_message_is_dropped() {
+        let tally = tally("every message dropped");
+        assert!(tally.dropped > 1_000 && tally.delivered == 0 && tally.received.is_empty());
     }
 
     #[test]

@@ -110,10 +110,20 @@ fn mixed_mail(receiver: u8, copies: usize) -> String {
     (0..LABELS).map(|label| message_of(label).repeat(if label & !receiver == 0 { 2 } else { copies })).collect()
 }
 
+/// A program that begins by sending messages of every label to the slot in register 1, without end.
+fn sends_every_label() -> String {
+    let sends: String = (0..LABELS).map(|label| format!("send 1 {label} 2\n")).collect();
+    format!("program\nsends:\n{sends}go sends 0 0\n")
+}
+
+/// Each sends messages of every label to the next, which has four of each and takes none: all are dropped.
+pub fn nothing_received() -> Vec<u8> {
+    image(&sends_every_label(), 0..SLOTS, |slot| sends_to((slot + 1) % SLOTS, slot) + &four_of_each(0..LABELS))
+}
+
 /// Even slots send messages of every label to odd ones, which receive all of them, more slowly than they come.
 pub fn eight_receivers() -> Vec<u8> {
-    let sends: String = (0..LABELS).map(|label| format!("send 1 {label} 2\n")).collect();
-    let program = format!("program\nsends:\n{sends}go sends 0 0\n{RECEIVE}");
+    let program = sends_every_label() + RECEIVE;
     image(&program, 0..SLOTS, |slot| {
         let sends = sends_to((slot + 1) % SLOTS, slot);
         if slot % 2 == 0 {
