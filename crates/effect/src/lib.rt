@@ -104,7 +104,7 @@ fn accepts(table: &table::Table, to: u32, label: u8) -> bool
 {
     if to < 16 {
         if table::kind(table, to as usize) == 1 {
-            return table::has_room(table, to as usize, label);
+            return search::has_room(table, to as usize, label);
         }
     }
     false
@@ -165,7 +165,7 @@ fn take(table: &mut table::Table, slot: u8, a: u8, b: u8) -> bool
         × (r ≡ isGiven (oldest flows (taskAt (slotsIn (now (table .entry))) slot))) ⌝ }
 {
     let own = table::label(table, slot as usize);
-    let i = table::oldest(table, slot as usize, own);
+    let i = search::oldest(table, slot as usize, own);
     if i < table::mailbox_length(table, slot as usize) {
         take_message(table, slot, i, a, b);
         true

@@ -1,22 +1,17 @@
--- Laws of the mailbox in a slot: one message more and one less, sets of its messages and the oldest of them, and a whole mailbox.
-use Prim.Native.Nat.{ℕ, suc, _+_, _*_, _-_, _^_, _<_, _≤_, min}
+-- Laws of the mailbox in a slot: one message more and one less, and a whole mailbox.
+use Prim.Native.Nat.{ℕ, suc, _+_, _*_, _-_, _<_, _≤_, min}
 use mathlib.Core.Path.{_≡_, refl, sym, ap, _∙_}
 use mathlib.Core.Logic.{_≢_}
-use mathlib.Core.Bool.{Bool, cond}
 use mathlib.Core.List.{List, [], _∷_, _++_}
-use native.Mathlib.Nat.{mod-eq-of-lt}
 use native.Mathlib.Omega.{arith}
 use borrow.Author.Tests.{lt-ltb, le-ltb}
-use lib.Bits.{bitAnd, and-mask}
-use lib.Count.{trailingZeros}
 use lib.ListN.{length, getD, set}
 use Rattle.wire.specs.Lists.{tabulate}
-use Rattle.wire.specs.Inner.{firstIndex, without}
-use Rattle.wire.proofs.Tabulate.{length-tabulate, getD-tabulate, tabulate-same, take-tabulate, tabulate-set, tabulate-append, tabulate-without}
+use Rattle.wire.specs.Inner.{without}
+use Rattle.wire.proofs.Tabulate.{getD-tabulate, tabulate-same, tabulate-set, tabulate-append, tabulate-without}
 use Rattle.label.specs.Label.{bit}
-use Rattle.planes.specs.Planes.{Bits, setOf, labelFrom}
+use Rattle.planes.specs.Planes.{labelFrom}
 use Rattle.planes.proofs.Labels.{label-same}
-use Rattle.planes.proofs.Sets.{set-of-bits, first-set, first-take}
 use Rattle.machine.specs.State.{Message, withMailbox}
 use Rattle.table.specs.Table.{window, planeIn, messageIn, taskIn, slotsIn}
 use Rattle.table.specs.Change.{noMessage, taskAt, Used, change, withMessage, withoutMessage, withMail, opened}
@@ -25,7 +20,7 @@ use Rattle.table.proofs.Window.{window-length}
 use Rattle.table.proofs.Message.{message-same, word-sender, word-value}
 use Rattle.table.proofs.Task.{count-stored, fields-kept}
 use Rattle.table.proofs.Change.{mail-used}
-use Rattle.table.proofs.Slots.{used-slot, mailbox-is, mailbox-read, frame-change}
+use Rattle.table.proofs.Slots.{used-slot, mailbox-read, frame-change}
 
 -- ---- one slot's words
 
@@ -71,36 +66,14 @@ mail-task w u i sender value h small fits q =
 
 -- ---- the slots
 
-module _ (t : List ℕ) (s : ℕ) (here : Used s (slotsIn t)) where
-  abbrev w : List ℕ
-  w = window t s
-
-  abbrev mailbox : List Message
-  mailbox = taskAt (slotsIn t) s .mailbox
-
-  module _ (p : Message → Bool) (x n : ℕ) (right : Bits (λ i. cond (p (messageIn w i)) 1 0) x) (count : n ≡ length mailbox) (many : n ≤ 64) where
-    first-n : tabulate n (messageIn w) ≡ mailbox
-    first-n = ap (λ (k : ℕ). tabulate k (messageIn w)) (count ∙ sym (mailbox-read t s here)) ∙ sym (mailbox-is t s here)
-
-    -- of the 64, the first n
-    pub set-read : bitAnd x (2 ^ n - 1) ≡ setOf p mailbox
-    set-read = and-mask x n ∙ set-of-bits p n (messageIn w) x (λ i h. right i (omega arith)) ∙ ap (setOf p) first-n
-
-    pub first-read : x < 2 ^ 64 → firstIndex p mailbox ≡ min (trailingZeros 64 x) n
-    first-read fits =
-        let all = tabulate 64 (messageIn w) in
-        let long : length all ≡ 64 = length-tabulate 64 (messageIn w) in
-        let whole : x ≡ setOf p all = sym (mod-eq-of-lt fits) ∙ set-of-bits p 64 (messageIn w) x right in
-        let first : trailingZeros 64 x ≡ firstIndex p all = ap (trailingZeros 64) whole ∙ ap (λ (k : ℕ). trailingZeros k (setOf p all)) (sym long) ∙ first-set p all in
-        ap (firstIndex p) (sym first-n ∙ sym (take-tabulate n 64 (messageIn w) many)) ∙ first-take p n all (rw long many) ∙ ap (λ (k : ℕ). min k n) (sym first)
-
-  -- a message written behind the last, and then its count
-  pub append-slots : (n : ℕ) (m : Message) (t₁ u : List ℕ) → n ≡ getD w 12 0 → length mailbox < 64 → SlotChanged s (With n m) t t₁ → SlotStored s (λ v. set v 12 (n + 1)) t₁ u
-      → slotsIn u ≡ change s (withMessage m) (slotsIn t)
-  append-slots n m t₁ u count room p q =
-      let read = mailbox-read t s here in
-      frame-change t u s (used-slot t s here) (λ j l ne. q .other j l ne ∙ p .other j l ne) (withMessage m) (λ k. refl)
-      (ap taskIn (q .here) ∙ append-task w (window t₁ s) (window-length t₁ s) n (omega arith) m (omega arith) (p .here))
+-- a message written behind the last, and then its count
+pub append-slots : (t : List ℕ) (s : ℕ) → Used s (slotsIn t) → (n : ℕ) (m : Message) (t₁ u : List ℕ) → n ≡ getD (window t s) 12 0
+    → length (taskAt (slotsIn t) s .mailbox) < 64 → SlotChanged s (With n m) t t₁ → SlotStored s (λ v. set v 12 (n + 1)) t₁ u
+    → slotsIn u ≡ change s (withMessage m) (slotsIn t)
+append-slots t s here n m t₁ u count room p q =
+    let read = mailbox-read t s here in
+    frame-change t u s (used-slot t s here) (λ j l ne. q .other j l ne ∙ p .other j l ne) (withMessage m) (λ k. refl)
+    (ap taskIn (q .here) ∙ append-task (window t s) (window t₁ s) (window-length t₁ s) n (omega arith) m (omega arith) (p .here))
 
 -- a message gone, and then its count
 pub remove-slots : (t t₁ u : List ℕ) (s i n : ℕ) → i < length (taskAt (slotsIn t) s .mailbox) → n ≡ length (taskAt (slotsIn t) s .mailbox) → SlotChanged s (Without i n) t t₁

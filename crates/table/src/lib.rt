@@ -3,16 +3,11 @@
 // message in the mailbox, and a label one of four bits.
 ghost use Prim.Native.Nat.{_+_, _*_, _<_, _≤_, _%_};
 ghost use mathlib.Core.Path.{_≡_};
-ghost use mathlib.Core.Bool.{cond};
-ghost use lib.Dec.{eqb};
 ghost use lib.ListN.{length, getD, set};
-ghost use Rattle.wire.specs.Lists.{keep};
-ghost use Rattle.wire.specs.Inner.{firstIndex};
-ghost use Rattle.label.specs.Label.{bit, flows};
-ghost use Rattle.planes.specs.Planes.{Bits, setOf, labelFrom, planeOf};
+ghost use Rattle.label.specs.Label.{bit};
+ghost use Rattle.planes.specs.Planes.{labelFrom, planeOf};
 ghost use Rattle.machine.specs.Limits.{highestLabel};
 ghost use Rattle.machine.specs.State.{unused, slotAt, register, withLabel, withSpare, withPc, withRegister, withMailbox};
-ghost use Rattle.machine.specs.Turn.{hasRoom};
 ghost use Rattle.table.specs.Table.{startWord, ringWord, slotWords, mailboxRoom, window, planeIn, ringIn, slotsIn, held};
 ghost use Rattle.table.specs.Words.{SlotChanged, SlotStored, cleared, Planed, WithBit, WithoutBit, Moved, Mailed, down, up, With, Closed, Without};
 ghost use Rattle.table.specs.Change.{Used, taskAt, messageAt, change, slotWithKind, withMessage, withoutMessage, withMail, opened, newTask};
@@ -164,7 +159,7 @@ fn mail(t: &Table, s: usize, i: usize) -> u64
 }
 
 // Plane b of slot s.
-fn plane(t: &Table, s: usize, b: usize) -> u64
+pub fn plane(t: &Table, s: usize, b: usize) -> u64
     requires { ⌜ (s < 16) × (b < 4) ⌝ }
     ensures { λ r. ⌜ r ≡ planeIn (window (now (t .entry)) s) b ⌝ }
 {
@@ -202,90 +197,6 @@ pub fn message_value(t: &Table, s: usize, i: usize) -> u32
     ensures { λ r. ⌜ r ≡ messageAt (slotsIn (now (t .entry))) s i .value ⌝ }
 {
     four(mail(t, s, i))
-}
-
-// ---- sets of messages
-
-// Bit i: whether the label of message i in slot s is this one, for each of 64, there or not. Plane by plane those go that differ.
-fn labelled(t: &Table, s: usize, label: u8) -> u64
-    requires { ⌜ (s < 16) × (label ≤ highestLabel) ⌝ }
-    ensures { λ r. ⌜ Bits (λ i. cond (eqb (labelFrom 4 (planeIn (window (now (t .entry)) s)) i) label) 1 0) r ⌝ }
-{
-    let mut apart: u64 = 0;
-    let mut b: usize = 0;
-    while b < 4 {
-        apart = apart | planes::unlike(plane(t, s, b), label, b);
-        b += 1;
-    }
-    !apart
-}
-
-// Bit i: whether the label of message i in slot s flows to `label`, for each of 64, there or not. Plane by plane those go that have a
-// bit that it has not.
-fn flowing(t: &Table, s: usize, label: u8) -> u64
-    requires { ⌜ s < 16 ⌝ }
-    ensures { λ r. ⌜ Bits (λ i. cond (flows (labelFrom 4 (planeIn (window (now (t .entry)) s)) i) label) 1 0) r ⌝ }
-{
-    let mut hidden: u64 = 0;
-    let mut b: usize = 0;
-    while b < 4 {
-        hidden = hidden | planes::above(plane(t, s, b), label, b);
-        b += 1;
-    }
-    !hidden
-}
-
-// The messages of a label in slot s.
-fn of_label(t: &Table, s: usize, label: u8) -> u64
-    requires { ⌜ Used s (slotsIn (now t)) × (label ≤ highestLabel) ⌝ }
-    ensures { λ r. ⌜ r ≡ setOf (λ m. eqb (m .label) label) (taskAt (slotsIn (now (t .entry))) s .mailbox) ⌝ }
-{
-    labelled(t, s, label) & planes::below(mailbox_length(t, s))
-}
-
-// The messages in slot s whose labels flow to `label`.
-fn receivable(t: &Table, s: usize, label: u8) -> u64
-    requires { ⌜ Used s (slotsIn (now t)) ⌝ }
-    ensures { λ r. ⌜ r ≡ setOf (λ m. flows (m .label) label) (taskAt (slotsIn (now (t .entry))) s .mailbox) ⌝ }
-{
-    flowing(t, s, label) & planes::below(mailbox_length(t, s))
-}
-
-// The index of the oldest message in slot s whose label flows to `label`; how many messages there are where there is none. What
-// lies behind the last is not masked off, since the first is looked for.
-pub fn oldest(t: &Table, s: usize, label: u8) -> usize
-    requires { ⌜ Used s (slotsIn (now t)) ⌝ }
-    ensures { λ r. ⌜ r ≡ firstIndex (λ m. flows (m .label) label) (taskAt (slotsIn (now (t .entry))) s .mailbox) ⌝ }
-{
-    let n = mailbox_length(t, s);
-    if n == 0 {
-        return 0;
-    }
-    let i = u64::trailing_zeros(flowing(t, s, label)) as usize;
-    if i < n { i } else { n }
-}
-
-// How many messages in slot s have labels that flow to `label`.
-pub fn count_receivable(t: &Table, s: usize, label: u8) -> usize
-    requires { ⌜ Used s (slotsIn (now t)) ⌝ }
-    ensures { λ r. ⌜ (r ≡ length (keep (λ m. flows (m .label) label) (taskAt (slotsIn (now (t .entry))) s .mailbox))) × (r ≤ mailboxRoom) ⌝ }
-{
-    u64::count_ones(receivable(t, s, label)) as usize
-}
-
-// Whether slot s has fewer than four messages of a label.
-pub fn has_room(t: &Table, s: usize, label: u8) -> bool
-    requires { ⌜ Used s (slotsIn (now t)) × (label ≤ highestLabel) ⌝ }
-    ensures { λ r. ⌜ r ≡ hasRoom label (taskAt (slotsIn (now (t .entry))) s .mailbox) ⌝ }
-{
-    if mailbox_length(t, s) < 4 {
-        return true;
-    }
-    if planes::has_four(of_label(t, s, label)) {
-        false
-    } else {
-        true
-    }
 }
 
 // ---- changing a field

@@ -1,4 +1,4 @@
--- `table::labelled` meets its contract: the bits of those messages are 1 where a message differs from the label in one of the first b planes.
+-- `search::labelled` meets its contract: the bits of those messages are 1 where a message differs from the label in one of the first b planes.
 use Prim.Native.Nat.{ℕ, _-_}
 use mathlib.Core.Bool.{Bool}
 use mathlib.Core.List.{List}
@@ -9,9 +9,9 @@ use Rattle.label.specs.Label.{bit}
 use Rattle.planes.specs.Planes.{labelFrom}
 use Rattle.planes.proofs.Tests.{Failed, failed-none, failed-more, all-passed}
 use Rattle.planes.proofs.Labels.{label-test}
 use Rattle.table.specs.Table.{window, planeIn}
-use Rattle.table.proofs.labelled.Statement.{statement}
-use Rattle.table.proofs.labelled.Tie as tie
+use Rattle.search.proofs.labelled.Statement.{statement}
+use Rattle.search.proofs.labelled.Tie as tie
 
 -- message i passes at plane b
 abbrev test : List ℕ → ℕ → ℕ → ℕ → Bool

@@ -1,4 +1,4 @@
--- `table::oldest` meets its contract: the first of the 64 that flows, if it is there.
+-- `search::oldest` meets its contract: the first of the 64 that flows, if it is there.
 use Prim.Native.Nat.{ℕ, min}
 use mathlib.Core.Path.{_≡_}
 use mathlib.Core.Bool.{Bool}
@@ -9,12 +9,12 @@ use Rattle.wire.specs.Inner.{firstIndex}
 use Rattle.wire.proofs.Lists.{first-le}
 use Rattle.label.specs.Label.{flows}
 use Rattle.machine.specs.State.{Message}
 use Rattle.table.specs.Table.{messageIn, slotsIn}
 use Rattle.table.specs.Change.{taskAt}
 use Rattle.table.proofs.Slots.{used-slot}
-use Rattle.table.proofs.Mailbox.{first-read}
-use Rattle.table.proofs.oldest.Statement.{statement}
-use Rattle.table.proofs.oldest.Tie as tie
+use Rattle.search.proofs.Read.{first-read}
+use Rattle.search.proofs.oldest.Statement.{statement}
+use Rattle.search.proofs.oldest.Tie as tie
 
 -- what is looked for
 abbrev wanted : ℕ → Message → Bool

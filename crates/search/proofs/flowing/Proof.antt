@@ -1,4 +1,4 @@
--- `table::flowing` meets its contract: the bits of those messages are 1 where a message has one of the first b bits that the label has not.
+-- `search::flowing` meets its contract: the bits of those messages are 1 where a message has one of the first b bits that the label has not.
 use Prim.Native.Nat.{ℕ, _-_}
 use mathlib.Core.Bool.{Bool}
 use mathlib.Core.List.{List}
@@ -9,9 +9,9 @@ use Rattle.label.specs.Label.{bit, flows}
 use Rattle.planes.specs.Planes.{labelFrom}
 use Rattle.planes.proofs.Tests.{Failed, failed-none, failed-more, all-passed}
 use Rattle.planes.proofs.Labels.{label-flows}
 use Rattle.table.specs.Table.{window, planeIn}
-use Rattle.table.proofs.flowing.Statement.{statement}
-use Rattle.table.proofs.flowing.Tie as tie
+use Rattle.search.proofs.flowing.Statement.{statement}
+use Rattle.search.proofs.flowing.Tie as tie
 
 -- message i passes at plane b
 abbrev test : List ℕ → ℕ → ℕ → ℕ → Bool

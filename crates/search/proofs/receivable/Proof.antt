@@ -1,12 +1,12 @@
--- `table::receivable` meets its contract: of the 64, those that are there.
+-- `search::receivable` meets its contract: of the 64, those that are there.
 use native.Mathlib.Omega.{arith}
 use denote.Ref.{now}
 use Rattle.label.specs.Label.{flows}
 use Rattle.table.specs.Table.{messageIn}
 use Rattle.table.proofs.Slots.{used-slot}
-use Rattle.table.proofs.Mailbox.{set-read}
-use Rattle.table.proofs.receivable.Statement.{statement}
-use Rattle.table.proofs.receivable.Tie as tie
+use Rattle.search.proofs.Read.{set-read}
+use Rattle.search.proofs.receivable.Statement.{statement}
+use Rattle.search.proofs.receivable.Tie as tie
 
 returns : tie.Need-returns
 unfolding messageIn

@@ -1,14 +1,14 @@
--- `table::count_receivable` meets its contract: as many as the set has.
+-- `search::count_receivable` meets its contract: as many as the set has.
 use mathlib.Core.Path.{ap, _∙_}
 use native.Mathlib.Omega.{arith}
 use denote.Ref.{now}
 use lib.Count.{ones, ones-le}
 use Rattle.label.specs.Label.{flows}
 use Rattle.planes.proofs.Sets.{ones-set}
 use Rattle.table.specs.Table.{slotsIn}
 use Rattle.table.specs.Change.{taskAt}
-use Rattle.table.proofs.count_receivable.Statement.{statement}
-use Rattle.table.proofs.count_receivable.Tie as tie
+use Rattle.search.proofs.count_receivable.Statement.{statement}
+use Rattle.search.proofs.count_receivable.Tie as tie
 
 returns : tie.Need-returns
 returns c =

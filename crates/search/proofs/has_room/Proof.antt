@@ -1,4 +1,4 @@
--- `table::has_room` meets its contract: a mailbox of fewer than four has fewer of each label, and else the set tells.
+-- `search::has_room` meets its contract: a mailbox of fewer than four has fewer of each label, and else the set tells.
 use Prim.Native.Nat.{ℕ}
 use mathlib.Core.Path.{_≡_, sym, ap, _∙_}
 use native.Mathlib.Omega.{arith}
@@ -10,10 +10,10 @@ use lib.ListN.{length}
 use Rattle.wire.proofs.Lists.{keep-le}
 use Rattle.planes.proofs.Sets.{ones-set}
 use Rattle.machine.specs.Turn.{ofLabel}
 use Rattle.table.specs.Table.{slotsIn}
 use Rattle.table.specs.Change.{taskAt}
-use Rattle.table.proofs.has_room.Statement.{statement}
-use Rattle.table.proofs.has_room.Tie as tie
+use Rattle.search.proofs.has_room.Statement.{statement}
+use Rattle.search.proofs.has_room.Tie as tie
 
 returns : tie.Need-returns
 returns c =

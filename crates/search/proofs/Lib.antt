@@ -1,0 +1,2 @@
+-- The laws of the crate `search`, a file each.
+pub mod Read

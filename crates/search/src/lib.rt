@@ -1,0 +1,100 @@
+// What is looked for in a mailbox: the messages of a label or those that flow to one, as a set, and what the set tells.
+ghost use Prim.Native.Nat.{_<_, _≤_};
+ghost use mathlib.Core.Path.{_≡_};
+ghost use mathlib.Core.Bool.{cond};
+ghost use lib.Dec.{eqb};
+ghost use lib.ListN.{length};
+ghost use Rattle.wire.specs.Lists.{keep};
+ghost use Rattle.wire.specs.Inner.{firstIndex};
+ghost use Rattle.label.specs.Label.{flows};
+ghost use Rattle.planes.specs.Planes.{Bits, setOf, labelFrom};
+ghost use Rattle.machine.specs.Limits.{highestLabel};
+ghost use Rattle.machine.specs.Turn.{hasRoom};
+ghost use Rattle.table.specs.Table.{mailboxRoom, window, planeIn, slotsIn};
+ghost use Rattle.table.specs.Change.{Used, taskAt};
+
+// ---- sets of messages
+
+// Bit i: whether the label of message i in slot s is this one, for each of 64, there or not. Plane by plane those go that differ.
+fn labelled(t: &table::Table, s: usize, label: u8) -> u64
+    requires { ⌜ (s < 16) × (label ≤ highestLabel) ⌝ }
+    ensures { λ r. ⌜ Bits (λ i. cond (eqb (labelFrom 4 (planeIn (window (now (t .entry)) s)) i) label) 1 0) r ⌝ }
+{
+    let mut apart: u64 = 0;
+    let mut b: usize = 0;
+    while b < 4 {
+        apart = apart | planes::unlike(table::plane(t, s, b), label, b);
+        b += 1;
+    }
+    !apart
+}
+
+// Bit i: whether the label of message i in slot s flows to `label`, for each of 64, there or not. Plane by plane those go that have a
+// bit that it has not.
+fn flowing(t: &table::Table, s: usize, label: u8) -> u64
+    requires { ⌜ s < 16 ⌝ }
+    ensures { λ r. ⌜ Bits (λ i. cond (flows (labelFrom 4 (planeIn (window (now (t .entry)) s)) i) label) 1 0) r ⌝ }
+{
+    let mut hidden: u64 = 0;
+    let mut b: usize = 0;
+    while b < 4 {
+        hidden = hidden | planes::above(table::plane(t, s, b), label, b);
+        b += 1;
+    }
+    !hidden
+}
+
+// The messages of a label in slot s.
+fn of_label(t: &table::Table, s: usize, label: u8) -> u64
+    requires { ⌜ Used s (slotsIn (now t)) × (label ≤ highestLabel) ⌝ }
+    ensures { λ r. ⌜ r ≡ setOf (λ m. eqb (m .label) label) (taskAt (slotsIn (now (t .entry))) s .mailbox) ⌝ }
+{
+    labelled(t, s, label) & planes::below(table::mailbox_length(t, s))
+}
+
+// The messages in slot s whose labels flow to `label`.
+fn receivable(t: &table::Table, s: usize, label: u8) -> u64
+    requires { ⌜ Used s (slotsIn (now t)) ⌝ }
+    ensures { λ r. ⌜ r ≡ setOf (λ m. flows (m .label) label) (taskAt (slotsIn (now (t .entry))) s .mailbox) ⌝ }
+{
+    flowing(t, s, label) & planes::below(table::mailbox_length(t, s))
+}
+
+// ---- what a set tells
+
+// The index of the oldest message in slot s whose label flows to `label`; how many messages there are where there is none. What
+// lies behind the last is not masked off, since the first is looked for.
+pub fn oldest(t: &table::Table, s: usize, label: u8) -> usize
+    requires { ⌜ Used s (slotsIn (now t)) ⌝ }
+    ensures { λ r. ⌜ r ≡ firstIndex (λ m. flows (m .label) label) (taskAt (slotsIn (now (t .entry))) s .mailbox) ⌝ }
+{
+    let n = table::mailbox_length(t, s);
+    if n == 0 {
+        return 0;
+    }
+    let i = u64::trailing_zeros(flowing(t, s, label)) as usize;
+    if i < n { i } else { n }
+}
+
+// How many messages in slot s have labels that flow to `label`.
+pub fn count_receivable(t: &table::Table, s: usize, label: u8) -> usize
+    requires { ⌜ Used s (slotsIn (now t)) ⌝ }
+    ensures { λ r. ⌜ (r ≡ length (keep (λ m. flows (m .label) label) (taskAt (slotsIn (now (t .entry))) s .mailbox))) × (r ≤ mailboxRoom) ⌝ }
+{
+    u64::count_ones(receivable(t, s, label)) as usize
+}
+
+// Whether slot s has fewer than four messages of a label.
+pub fn has_room(t: &table::Table, s: usize, label: u8) -> bool
+    requires { ⌜ Used s (slotsIn (now t)) × (label ≤ highestLabel) ⌝ }
+    ensures { λ r. ⌜ r ≡ hasRoom label (taskAt (slotsIn (now (t .entry))) s .mailbox) ⌝ }
+{
+    if table::mailbox_length(t, s) < 4 {
+        return true;
+    }
+    if planes::has_four(of_label(t, s, label)) {
+        false
+    } else {
+        true
+    }
+}
