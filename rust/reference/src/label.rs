@@ -13,6 +13,11 @@ impl Label {
         (usize::from(number) < Label::COUNT).then_some(Label(number))
     }
 
+    /// The labels 0 to 15 in order.
+    pub fn all() -> impl Iterator<Item = Label> {
+        (0..Label::COUNT as u8).map(Label)
+    }
+
     /// Whether each bit of this label is also in `other`.
     pub fn flows_to(self, other: Label) -> bool {
         self.0 & other.0 == self.0

@@ -1,4 +1,4 @@
-//! A plain interpreter of document 01 and requests U1 and U2 of document 02, written separately from the monitor and
+//! A plain interpreter of document 01 and requests U1 to U3 of document 02, written separately from the monitor and
 //! compared with it.
 
 #![forbid(unsafe_code)]
@@ -8,6 +8,7 @@ mod image;
 mod instruction;
 mod label;
 mod listing;
+mod looks;
 mod mailbox;
 mod read;
 mod refusal;
@@ -113,6 +114,13 @@ pub fn slotsheet(input: &[u8]) -> Vec<u8> {
         .and_then(|(observer, image)| visible(image, observer.into()))
         .map_or_else(sheet::refusal_line, |image| sheet::sheet(&image))
         .into_bytes()
+}
+
+/// All that the test program `lookprobe` prints for this standard input: nothing for a refused image, else for each
+/// slot, and in it each label, two bytes: 1 where the mailbox of the slot's task has room for one more message of the
+/// label, else 0, and how many messages the count looks at. Both are 0 for an unused slot.
+pub fn looks(image: &[u8]) -> Vec<u8> {
+    read::read(image).map_or_else(|_| Vec::new(), |(image, _)| looks::looks(&image))
 }
 
 /// Writes the program that a text lists, a line for each instruction.

@@ -13,6 +13,15 @@ pub struct Message {
     pub value: u32,
 }
 
+/// What the count of one label's messages in a mailbox tells.
+#[derive(Debug, Clone, Copy, PartialEq, Eq)]
+pub struct Look {
+    /// Whether one more message of the label has room.
+    pub room: bool,
+    /// How many messages were looked at.
+    pub looked: usize,
+}
+
 /// Messages, oldest first, with a count for each label.
 #[derive(Debug)]
 pub struct Mailbox {
@@ -32,8 +41,21 @@ impl Mailbox {
         Mailbox { messages: VecDeque::with_capacity(Mailbox::CAPACITY), counts: [0; Label::COUNT] }
     }
 
+    /// Counts the messages of this label from the oldest on; looks at none behind the fourth, which decides the drop.
+    pub fn look(&self, label: Label) -> Look {
+        let mut count = 0;
+        for (ahead, message) in self.messages.iter().enumerate() {
+            count += u8::from(message.label == label);
+            if count == Mailbox::PER_LABEL {
+                return Look { room: false, looked: ahead + 1 };
+            }
+        }
+        Look { room: true, looked: self.messages.len() }
+    }
+
     /// Puts the message at the end and tells whether there was room for its label.
     pub fn push(&mut self, message: Message) -> bool {
+        // By the counts and not by `look`: this crate is also the benchmark's baseline, and a scan would slow it.
         let count = &mut self.counts[message.label.index()];
         let room = *count < Mailbox::PER_LABEL;
         if room {

@@ -3,6 +3,7 @@
 
 mod calls;
 mod listings;
+mod looks;
 mod posts;
 mod refusals;
 mod steps;

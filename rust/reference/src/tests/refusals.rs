@@ -1,7 +1,7 @@
 //! One image for each number and the order in which they are given.
 
 use super::{after, b, image, judged_instructions, mail, END, ROOM, UNTOUCHED};
-use crate::{check, post, record, rewrite, sheet, turns, view, Answer, PostAnswer};
+use crate::{check, looks, post, record, rewrite, sheet, turns, view, Answer, PostAnswer};
 use layout::{Image, Task};
 
 /// What a refused call tells.
@@ -26,6 +26,7 @@ fn assert_refused(bytes: &[u8], number: u8) {
     assert_eq!(post(bytes, 5, 0, 0, &mut out), post_refused(number));
     assert!(out.iter().all(|&byte| byte == UNTOUCHED));
     assert!((0..17).all(|slot| record(bytes, slot) == (0..0)));
+    assert!(looks(bytes).is_empty());
 }
 
 /// B with a change to its task in slot 5.
