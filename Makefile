@@ -17,7 +17,9 @@ MAKEFLAGS += --no-print-directory
 
 archive := target/staticlib/librithennaw.a
 slotsheet := target/bin/slotsheet
-# What the two are proved from. The folders are listed too, so that a file that was removed is noticed.
+# A program for the tests alone, which is not installed.
+lookprobe := target/bin/lookprobe
+# What these are proved from. The folders are listed too, so that a file that was removed is noticed.
 sources := crates.txt $(shell find crates -name must-fail -prune -o -print)
 # rt, with a line for each crate and each edit that is done. That there is one is looked at where it is called and not by a
 # target of its own, since what is built already needs none.
@@ -25,7 +27,7 @@ prove := tools/check-kit && tools/progress $(RT)
 # No package of another's is used, so cargo needs no network. Of make's -j it would only say that it cannot share it.
 cargo := MAKEFLAGS= MFLAGS= $(CARGO) --offline --locked
 cargo_words := --release --manifest-path rust/Cargo.toml
-differential := $(cargo) run $(cargo_words) --package differential -- --slotsheet $(slotsheet)
+differential := $(cargo) run $(cargo_words) --package differential -- --slotsheet $(slotsheet) --lookprobe $(lookprobe)
 prefix := $(abspath $(PREFIX))
 installed := include/rithennaw.h lib/librithennaw.a lib/pkgconfig/rithennaw.pc bin/slotsheet
 
@@ -41,10 +43,10 @@ lib: $(archive) ## prove and build the archive for C and Rust, target/staticlib/
 $(archive): $(sources)
 	@$(prove) staticlib rithennaw
 
-# rt leaves a program alone that has not changed, so its time is set here.
-$(slotsheet): $(sources)
+# rt leaves a program alone that has not changed, so the times of both are set here.
+$(slotsheet) $(lookprobe): $(sources)
 	@$(prove) check
-	@touch $@
+	@touch $(slotsheet) $(lookprobe)
 
 check: ## prove what has changed since the last check
 	@$(prove) check
@@ -72,12 +74,12 @@ test: ## the whole gate: every test, then every proof from nothing and every mus
 link-test: $(archive) ## link the archive into C programs, run them, and measure the stack of a call
 	@tests/link/run
 
-rust-test: all ## test the Rust packages, and compare the monitor and slotsheet with the reference interpreter
+rust-test: all $(lookprobe) ## test the Rust packages, and compare the monitor and its programs with the reference interpreter
 	@$(cargo) test $(cargo_words) -- --quiet
 	@$(differential)
 
 # Other seeds than those of rust-test, which are the first 6,000.
-differential: all ## the same comparison for a long run; SEEDS says how many seeds
+differential: all $(lookprobe) ## the same comparison for a long run; SEEDS says how many seeds
 	@$(differential) --first 10000 --seeds $(SEEDS)
 
 examples: all ## test the README's programs, the C host by what is installed below a temporary prefix, the host loops and the sample day

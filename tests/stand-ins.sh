@@ -43,7 +43,7 @@ env >environment
 ./step rt "$@" || { [ "$1" != ci ] || echo '7 passed, 1 failed'; exit 1; }
 case $1 in
 staticlib) mkdir -p target/staticlib && echo archive >target/staticlib/librithennaw.a ;;
-check) mkdir -p target/bin && echo slotsheet >target/bin/slotsheet ;;
+check) mkdir -p target/bin && echo slotsheet >target/bin/slotsheet && echo lookprobe >target/bin/lookprobe ;;
 ci) echo '8 passed, 0 failed' ;;
 esac
 END_OF_PROGRAM

@@ -104,7 +104,7 @@ fn accepts(table: &table::Table, to: u32, label: u8) -> bool
 {
     if to < 16 {
         if table::kind(table, to as usize) == 1 {
-            return search::has_room(table, to as usize, label);
+            return search::look(table, to as usize, label).room;
         }
     }
     false

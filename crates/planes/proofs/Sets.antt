@@ -1,25 +1,23 @@
--- Laws of sets: a word whose bits are right is the set, how many are in it, and which is the first.
+-- Laws of sets: a word whose bits are right is the set, how many are in it, which is the first, and the set without its lowest.
 use Prim.Native.Nat.{ℕ, zero, suc, _+_, _-_, _/_, _%_, _^_, _<_, _≤_, min}
 use mathlib.Core.Path.{_≡_, refl, sym, ap, ap₂, _∙_}
-use mathlib.Core.Logic.{_≢_, dite}
 use mathlib.Core.Bool.{Bool, cond, _&&_}
 use mathlib.Core.List.{List, [], _∷_}
 use native.Mathlib.Nat.{pow-suc, mod-lt, mod-one, not-suc-le-zero}
 use native.Mathlib.Omega.{arith}
-use native.Mathlib.Decide.{ℕ-discrete}
-use borrow.Author.Tests.{le-leb, lt-leb, lt-ltb, le-ltb}
-use lib.Dec.{leb, ltb, leb·suc-suc}
+use borrow.Author.Tests.{lt-ltb, le-ltb}
+use lib.Dec.{ltb, leb·suc-suc}
 use lib.Arith.{mod-mul}
 use lib.ListN.{length, getD, take}
 use lib.Pow.{pow-pos}
-use lib.Bits.{bitAnd, and-step, and-self}
+use lib.Bits.{and-step, and-self}
 use lib.Count.{ones, ones-step, trailingZeros, under}
 use Rattle.wire.specs.Lists.{keep, tabulate}
 use Rattle.wire.specs.Inner.{firstIndex}
 use Rattle.wire.proofs.Lists.{split}
 use Rattle.label.specs.Label.{bit}
 use Rattle.label.proofs.Bits.{bit-first, bit-half, bit-zero, two}
-use Rattle.planes.specs.Planes.{setOf}
+use Rattle.planes.specs.Planes.{setOf, withoutLowest}
 
 module _ {A : Type 0} (p : A → Bool) where
   -- a word whose n low bits are the test's
@@ -33,13 +31,18 @@ module _ {A : Type 0} (p : A → Bool) where
 
   -- ---- a set by halves
 
-  set-odd : (x : A) (xs : List A) → setOf p (x ∷ xs) % 2 ≡ cond (p x) 1 0
+  pub set-odd : (x : A) (xs : List A) → setOf p (x ∷ xs) % 2 ≡ cond (p x) 1 0
   unfolding setOf
   set-odd x xs = split (p x) (λ e. rw e (omega arith)) (λ e. rw e (omega arith))
 
-  set-half : (x : A) (xs : List A) → setOf p (x ∷ xs) / 2 ≡ setOf p xs
+  pub set-half : (x : A) (xs : List A) → setOf p (x ∷ xs) / 2 ≡ setOf p xs
   unfolding setOf
   set-half x xs = split (p x) (λ e. rw e (omega arith)) (λ e. rw e (omega arith))
+
+  pub set-below : (xs : List A) → setOf p xs < 2 ^ length xs
+  unfolding setOf
+  set-below [] = omega arith
+  set-below (x ∷ xs) = let ih = set-below xs in rw pow-suc (split (p x) (λ e. rw e (omega arith)) (λ e. rw e (omega arith)))
 
   -- bit by bit
   pub set-bit : (xs : List A) (i : ℕ) (d : A) → bit i (setOf p xs) ≡ cond (ltb i (length xs) && p (getD xs i d)) 1 0
@@ -73,58 +76,22 @@ module _ {A : Type 0} (p : A → Bool) where
 
 -- ---- a set without its lowest
 
-abbrev lower : ℕ → ℕ
-lower x = bitAnd x (x - 1)
-
 module _ (x : ℕ) where
-  even-half : x % 2 ≡ 0 → lower x / 2 ≡ lower (x / 2)
+  pub even-half : x % 2 ≡ 0 → withoutLowest x / 2 ≡ withoutLowest (x / 2)
   even-half e =
       let h : (x - 1) / 2 ≡ x / 2 - 1 = omega arith in
       let s = and-step x (x - 1) in
       rw (s, h, e) (omega arith)
 
-  odd-half : x % 2 ≡ 1 → lower x / 2 ≡ x / 2
+  pub odd-half : x % 2 ≡ 1 → withoutLowest x / 2 ≡ x / 2
   odd-half e =
       let h : (x - 1) / 2 ≡ x / 2 = omega arith in
       let m : (x - 1) % 2 ≡ 0 = omega arith in
       let s = and-step x (x - 1) in
       rw (s, h, m, and-self (x / 2)) (omega arith)
 
-  lower-even : lower x % 2 ≡ 0
-  lower-even =
-      let even : x % 2 ≡ 0 → lower x % 2 ≡ 0 = λ e. rw (and-step x (x - 1), e) (omega arith) in
-      let odd : x % 2 ≡ 1 → lower x % 2 ≡ 0 = λ e. let d : (x - 1) % 2 ≡ 0 = omega arith in rw (and-step x (x - 1), d) (omega arith) in
-      two (λ y. x % 2 ≡ y → lower x % 2 ≡ 0) even odd (x % 2) (mod-lt x (omega arith)) refl
-
-pub ones-lower : (n x : ℕ) → x < 2 ^ n → (x ≡ 0 → ⊥) → ones (lower x) + 1 ≡ ones x
-ones-lower zero x h z = absurd (z (omega arith))
-ones-lower (suc n) x h z =
-    let k = rw pow-suc at h in
-    let ih = ones-lower n (x / 2) (omega arith) in
-    rw (ones-step (lower x), ones-step x, lower-even x)
-    (two (λ y. x % 2 ≡ y → 0 + ones (lower x / 2) + 1 ≡ x % 2 + ones (x / 2))
-    (λ e. rw (even-half x e, e) (omega (arith, ih (λ q. z (omega arith)))))
-    (λ e. rw (odd-half x e, e) (omega arith))
-    (x % 2) (mod-lt x (omega arith)) refl)
-
-pub ones-zero : ones 0 ≡ 0
-unfolding ones
-ones-zero = refl
-
--- a word without ones
-ones-none : (n x : ℕ) → x < 2 ^ n → ones x ≡ 0 → x ≡ 0
-ones-none zero x h e = omega arith
-ones-none (suc n) x h e =
-    let k = rw pow-suc at h in
-    let s : x % 2 + ones (x / 2) ≡ 0 = sym (ones-step x) ∙ e in
-    let half = ones-none n (x / 2) (omega arith) (omega arith) in
-    omega arith
-
--- one is left once three are dropped
-pub fourth-left : (set left : ℕ) → left < 2 ^ 64 → ones left ≡ ones set - 1 - 1 - 1 → ltb 0 left ≡ leb 4 (ones set)
-fourth-left set left h e =
-    dite (ℕ-discrete left 0)
-    (λ none. let few : ones set < 4 = omega (arith, ap ones none, ones-zero) in le-ltb 0 left (omega arith) ∙ sym (lt-leb 4 (ones set) few))
-    (λ some.
-    let many : ones left ≢ 0 = λ z. some (ones-none 64 left h z) in
-    lt-ltb 0 left (omega (arith, some)) ∙ sym (le-leb 4 (ones set) (omega (arith, many))))
+  pub lowest-gone : withoutLowest x % 2 ≡ 0
+  lowest-gone =
+      let even : x % 2 ≡ 0 → withoutLowest x % 2 ≡ 0 = λ e. rw (and-step x (x - 1), e) (omega arith) in
+      let odd : x % 2 ≡ 1 → withoutLowest x % 2 ≡ 0 = λ e. let d : (x - 1) % 2 ≡ 0 = omega arith in rw (and-step x (x - 1), d) (omega arith) in
+      two (λ y. x % 2 ≡ y → withoutLowest x % 2 ≡ 0) even odd (x % 2) (mod-lt x (omega arith)) refl

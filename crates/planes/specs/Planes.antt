@@ -1,8 +1,9 @@
 -- Words with a bit for each of 64 messages: sets of messages, and planes, which hold the labels.
-use Prim.Native.Nat.{ℕ, zero, suc, _+_, _*_, _^_, _<_}
+use Prim.Native.Nat.{ℕ, zero, suc, _+_, _*_, _-_, _^_, _<_}
 use mathlib.Core.Path.{_≡_}
 use mathlib.Core.Bool.{Bool, cond}
 use mathlib.Core.List.{List, [], _∷_}
+use lib.Bits.{bitAnd}
 use lib.Dec.{ltb}
 use Rattle.label.specs.Label.{bit}
 use Rattle.planes.specs.declared.LabelPlanes.{LabelPlanes}
@@ -11,6 +12,10 @@ use Rattle.planes.specs.declared.LabelPlanes.{LabelPlanes}
 unfoldable pub setOf : {A : Type 0} → (A → Bool) → List A → ℕ
 setOf p [] = 0
 setOf p (x ∷ xs) = cond (p x) 1 0 + 2 * setOf p xs
+
+-- a set without its lowest element
+abbrev pub withoutLowest : ℕ → ℕ
+withoutLowest x = bitAnd x (x - 1)
 
 -- the label of message i from n planes: bit i of plane b is bit b of the label
 unfoldable pub labelFrom : ℕ → (ℕ → ℕ) → ℕ → ℕ

@@ -4,9 +4,8 @@ ghost use mathlib.Core.Path.{_≡_};
 ghost use mathlib.Core.Bool.{cond};
 ghost use mathlib.Core.List.{[]};
 ghost use lib.Dec.{eqb, leb};
-ghost use lib.Count.{ones};
 ghost use Rattle.label.specs.Label.{bit};
-ghost use Rattle.planes.specs.Planes.{Bits, behindGap, Fits, ahead, planesOf};
+ghost use Rattle.planes.specs.Planes.{withoutLowest, Bits, behindGap, Fits, ahead, planesOf};
 
 // ---- sets
 
@@ -22,18 +21,11 @@ pub fn below(n: usize) -> u64
     }
 }
 
-// A set without its lowest message: what counts is that it has one less.
-fn rest(set: u64) -> u64
-    ensures { λ r. ⌜ ones r ≡ ones set - 1 ⌝ }
+// A set without its oldest message.
+pub fn rest(set: u64) -> u64
+    ensures { λ r. ⌜ r ≡ withoutLowest set ⌝ }
 {
     if set == 0 { 0 } else { set & (set - 1) }
-}
-
-// Whether a set has four messages: three are dropped, and what is left tells.
-pub fn has_four(set: u64) -> bool
-    ensures { λ r. ⌜ r ≡ leb 4 (ones set) ⌝ }
-{
-    rest(rest(rest(set))) > 0
 }
 
 // ---- planes: bit i of plane b is bit b of the label of message i

@@ -9,9 +9,12 @@ ghost use Rattle.wire.specs.Inner.{firstIndex};
 ghost use Rattle.label.specs.Label.{flows};
 ghost use Rattle.planes.specs.Planes.{Bits, setOf, labelFrom};
 ghost use Rattle.machine.specs.Limits.{highestLabel};
-ghost use Rattle.machine.specs.Turn.{hasRoom};
 ghost use Rattle.table.specs.Table.{mailboxRoom, window, planeIn, slotsIn};
 ghost use Rattle.table.specs.Change.{Used, taskAt};
+ghost use Rattle.search.specs.Look.{look};
+
+// How many messages of a label a mailbox may hold.
+const LIMIT: usize = 4;
 
 // ---- sets of messages
 
@@ -84,17 +87,40 @@ pub fn count_receivable(t: &table::Table, s: usize, label: u8) -> usize
     u64::count_ones(receivable(t, s, label)) as usize
 }
 
-// Whether slot s has fewer than four messages of a label.
-pub fn has_room(t: &table::Table, s: usize, label: u8) -> bool
+// What the count of a label's messages tells: whether there is room for one more, and how many messages were looked at.
+pub struct Looked {
+    pub room: bool,
+    pub looked: usize,
+}
+
+// The count of a label's messages in slot s, from the oldest on. The loop drops three, whether they are there or not, since a test in
+// each step would cost more than the steps; what is left begins with the fourth, and there the count ends.
+pub fn look(t: &table::Table, s: usize, label: u8) -> Looked
     requires { ⌜ Used s (slotsIn (now t)) × (label ≤ highestLabel) ⌝ }
-    ensures { λ r. ⌜ r ≡ hasRoom label (taskAt (slotsIn (now (t .entry))) s .mailbox) ⌝ }
+    ensures { λ r. ⌜ r ≡ look label (taskAt (slotsIn (now (t .entry))) s .mailbox) ⌝ }
 {
-    if table::mailbox_length(t, s) < 4 {
-        return true;
+    let n = table::mailbox_length(t, s);
+    if n < LIMIT {
+        return Looked {
+            room: true,
+            looked: n,
+        };
     }
-    if planes::has_four(of_label(t, s, label)) {
-        false
+    let mut left = of_label(t, s, label);
+    let mut place: usize = 1;
+    while place < LIMIT {
+        left = planes::rest(left);
+        place += 1;
+    }
+    if left == 0 {
+        Looked {
+            room: true,
+            looked: n,
+        }
     } else {
-        true
+        Looked {
+            room: false,
+            looked: (u64::trailing_zeros(left) as usize) + 1,
+        }
     }
 }

@@ -193,10 +193,6 @@ module _ {A : Type 0} where
   keep-append p [] ys = refl
   keep-append p (x ∷ xs) ys = let h = keep-append p xs ys in split (p x) (λ e. rw (e, h)) (λ e. rw (e, h))
 
-  pub keep-le : (p : A → Bool) (xs : List A) → length (keep p xs) ≤ length xs
-  keep-le p [] = omega arith
-  keep-le p (x ∷ xs) = let ih = keep-le p xs in split (p x) (λ e. rw e (omega arith)) (λ e. rw e (omega arith))
-
   -- two filters are one
   pub keep-and : (p q : A → Bool) (xs : List A) → keep p (keep q xs) ≡ keep (λ x. q x && p x) xs
   keep-and p q [] = refl

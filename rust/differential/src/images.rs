@@ -33,7 +33,7 @@ fn sender(rng: &mut Rng) -> u8 {
 }
 
 /// As many messages of those labels as a mailbox may hold, in a random order.
-fn all_mail(rng: &mut Rng, labels: &[u8]) -> Vec<Message> {
+pub fn all_mail(rng: &mut Rng, labels: &[u8]) -> Vec<Message> {
     let mut labels: Vec<u8> = labels.iter().flat_map(|&label| [label; MAIL_PER_LABEL]).collect();
     rng.shuffle(&mut labels);
     labels.into_iter().map(|label| Message { label, sender: sender(rng), value: value(rng) }).collect()

@@ -1,19 +1,21 @@
-//! Compares the monitor with the reference interpreter seed by seed, and slotsheet with what the reference says.
-//! Usage: differential [--first SEED] [--seeds N] --slotsheet PROGRAM
+//! Compares the monitor with the reference interpreter seed by seed, and slotsheet and lookprobe with what the reference
+//! says.
+//! Usage: differential [--first SEED] [--seeds N] --slotsheet PROGRAM --lookprobe PROGRAM
 
 #![forbid(unsafe_code)]
 
 use differential::calls::BOTH;
 use differential::compare::Comparison;
+use differential::looks::LooksTally;
 use differential::report::Mismatch;
 use differential::secrecy_report::SecrecyTally;
 use differential::slotsheet::SlotsheetTally;
-use differential::{cases, secrecy, slotsheet, text_cases};
+use differential::{cases, looks, secrecy, slotsheet, text_cases};
 use std::env;
 use std::ffi::OsString;
 use std::process::ExitCode;
 
-const USAGE: &str = "usage: differential [--first SEED] [--seeds N] --slotsheet PROGRAM";
+const USAGE: &str = "usage: differential [--first SEED] [--seeds N] --slotsheet PROGRAM --lookprobe PROGRAM";
 
 /// Mismatches that are shown whole; all are counted.
 const SHOWN: u64 = 3;
@@ -23,20 +25,22 @@ struct Options {
     first: u64,
     seeds: u64,
     slotsheet: OsString,
+    lookprobe: OsString,
 }
 
 fn options(mut arguments: impl Iterator<Item = OsString>) -> Option<Options> {
-    let (mut first, mut seeds, mut slotsheet) = (0, 6_000, None);
+    let (mut first, mut seeds, mut slotsheet, mut lookprobe) = (0, 6_000, None, None);
     while let Some(name) = arguments.next() {
         let value = arguments.next()?;
         match name.to_str()? {
             "--first" => first = value.to_str()?.parse().ok()?,
             "--seeds" => seeds = value.to_str()?.parse().ok()?,
             "--slotsheet" => slotsheet = Some(value),
+            "--lookprobe" => lookprobe = Some(value),
             _ => return None,
         }
     }
-    Some(Options { first, seeds, slotsheet: slotsheet? })
+    Some(Options { first, seeds, slotsheet: slotsheet?, lookprobe: lookprobe? })
 }
 
 /// The number of mismatches so far.
@@ -69,9 +73,14 @@ fn run(options: &Options) -> bool {
     for input in slotsheet::inputs() {
         mismatches.note(slotsheet::run(&mut slotsheet_tally, &options.slotsheet, &input));
     }
+    let mut looks_tally = LooksTally::default();
+    for input in looks::inputs() {
+        mismatches.note(looks::run(&mut looks_tally, &options.lookprobe, &input));
+    }
     let tally = comparison.tally;
-    println!("{tally}\n{secrecy_tally}\n{slotsheet_tally}");
-    let missing = [tally.shortfalls(), secrecy_tally.shortfalls(), slotsheet_tally.shortfalls()].concat();
+    println!("{tally}\n{secrecy_tally}\n{slotsheet_tally}\n{looks_tally}");
+    let programs = [slotsheet_tally.shortfalls(), looks_tally.shortfalls()].concat();
+    let missing = [tally.shortfalls(), secrecy_tally.shortfalls(), programs].concat();
     missing.iter().for_each(|missing| eprintln!("differential: {missing}"));
     println!("{} calls compared, {} mismatches", tally.compared, mismatches.0);
     mismatches.0 == 0 && missing.is_empty()

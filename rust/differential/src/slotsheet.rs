@@ -2,13 +2,11 @@
 
 use crate::damage::FAULTS;
 use crate::images;
+use crate::process;
 use crate::report::{hex, Mismatch, NUMBERS};
 use crate::rng::Rng;
 use std::ffi::OsStr;
 use std::fmt;
-use std::io::{self, Write};
-use std::path::Path;
-use std::process::{Command, Stdio};
 
 /// The longest input that is not refused for its length.
 const INPUT_MAX: usize = 8_192;
@@ -33,8 +31,7 @@ pub fn inputs() -> impl Iterator<Item = Vec<u8>> {
 
 /// Runs the program on an input.
 pub fn run(tally: &mut SlotsheetTally, program: &OsStr, input: &[u8]) -> Result<(), Mismatch> {
-    let printed =
-        print(program, input).map_err(|error| Mismatch(format!("{}: {error}", Path::new(program).display())))?;
+    let printed = process::print(program, input)?;
     let expected = reference::slotsheet(input);
     let text = |bytes: &[u8]| String::from_utf8_lossy(bytes).into_owned();
     if printed != expected {
@@ -70,23 +67,6 @@ fn of_limits() -> Vec<Vec<u8>> {
         }
     }
     inputs
-}
-
-/// What the program prints for that input; a failure of its own is an error.
-fn print(program: &OsStr, input: &[u8]) -> io::Result<Vec<u8>> {
-    let [stdin, stdout, stderr] = [(); 3].map(|()| Stdio::piped());
-    let mut child = Command::new(program).stdin(stdin).stdout(stdout).stderr(stderr).spawn()?;
-    if let Some(mut stdin) = child.stdin.take() {
-        // A program that has seen enough may close its input.
-        stdin
-            .write_all(input)
-            .or_else(|error| if error.kind() == io::ErrorKind::BrokenPipe { Ok(()) } else { Err(error) })?;
-    }
-    let output = child.wait_with_output()?;
-    if output.status.success() && output.stderr.is_empty() {
-        return Ok(output.stdout);
-    }
-    Err(io::Error::other(format!("{}, and it says: {}", output.status, String::from_utf8_lossy(&output.stderr))))
 }
 
 impl SlotsheetTally {

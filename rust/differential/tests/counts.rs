@@ -1,6 +1,7 @@
 //! A run that compared nothing does not pass, and neither does one in which a call told a number that is not its own.
 
 use differential::calls::{Answer, Call, Post};
+use differential::looks::LooksTally;
 use differential::report::Tally;
 use differential::secrecy_report::SecrecyTally;
 use differential::slotsheet::SlotsheetTally;
@@ -15,6 +16,8 @@ fn a_run_without_calls_lacks_every_count() {
     assert_eq!(SecrecyTally::default().shortfalls().len(), 16 + 15);
     // Sheets, and the refusals 1 and 3 to 12.
     assert_eq!(SlotsheetTally::default().shortfalls().len(), 1 + 11);
+    // Room after 0 to 63 messages, the fourth after 4 to 64, unused slots and refused images.
+    assert_eq!(LooksTally::default().shortfalls().len(), 64 + 61 + 2);
 }
 
 /// The numbers that a call never may tell.

@@ -1,6 +1,6 @@
-//! The program: what it prints is counted, and a slotsheet that prints something else is a mismatch.
+//! The program: what it prints is counted, and a slotsheet or lookprobe that prints something else is a mismatch.
 
-use differential::slotsheet;
+use differential::{looks, slotsheet};
 use std::process::{Command, Output};
 
 fn differential(arguments: &[&str]) -> Output {
@@ -27,10 +27,12 @@ fn calls(printed: &str) -> u64 {
 
 #[test]
 fn the_last_line_counts_calls_and_mismatches() {
-    // The program `true` prints nothing, which is wrong for every input of slotsheet.
-    let mismatches = slotsheet::inputs().count();
-    assert!(mismatches > 300);
-    let output = differential(&["--first", "7", "--seeds", "20", "--slotsheet", "true"]);
+    // The program `true` prints nothing, which is wrong for every input of slotsheet, and for each accepted one of lookprobe.
+    let sheets = slotsheet::inputs().count();
+    let looks = looks::inputs().filter(|input| rithennaw::check(input).is_ok()).count();
+    assert!(sheets > 300 && looks > 250);
+    let mismatches = sheets + looks;
+    let output = differential(&["--first", "7", "--seeds", "20", "--slotsheet", "true", "--lookprobe", "true"]);
     let [printed, said] = [output.stdout, output.stderr].map(|text| String::from_utf8(text).unwrap());
     let calls = calls(&printed);
     assert!(calls > 1_000, "{printed}");
@@ -41,10 +43,13 @@ fn the_last_line_counts_calls_and_mismatches() {
 }
 
 #[test]
-fn nothing_is_compared_without_slotsheet() {
-    for arguments in [&[][..], &["--seeds", "1"], &["--slotsheet"], &["--seed", "1", "--slotsheet", "true"]] {
+fn nothing_is_compared_without_the_programs() {
+    let both = ["--slotsheet", "true", "--lookprobe", "true"];
+    let unknown = [&["--seed", "1"], &both[..]].concat();
+    for arguments in [&[][..], &["--seeds", "1"], &both[..2], &both[2..], &both[..3], &unknown] {
         let output = differential(arguments);
-        let usage = b"usage: differential [--first SEED] [--seeds N] --slotsheet PROGRAM\n".to_vec();
+        let usage =
+            b"usage: differential [--first SEED] [--seeds N] --slotsheet PROGRAM --lookprobe PROGRAM\n".to_vec();
         assert_eq!((output.stdout, output.stderr, output.status.success()), (vec![], usage, false));
     }
 }

@@ -1,0 +1,3 @@
+-- The definitions of the crate `search`, a file each.
+pub mod Look
+pub mod Claims
