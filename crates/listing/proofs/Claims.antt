@@ -1,7 +1,7 @@
 -- The claims of specs/Claims.antt hold.
 use Prim.Native.Nat.{ℕ, _*_, _≤_}
 use mathlib.Core.Path.{_≡_, refl, sym, ap, _∙_}
-use mathlib.Core.Bool.{Bool, true, false, _&&_}
+use mathlib.Core.Bool.{Bool, true, false, _&&_, true≢false}
 use mathlib.Core.List.{List}
 use native.Mathlib.Omega.{arith}
 use borrow.Author.Tests.{leb-true, le-leb}
@@ -30,7 +30,7 @@ texts-are-read = record { read = read; finds = read-finds; unique = λ text ls l
 -- ---- the numbers of a call that tests t, then u, then the output's room f, each of which decides a fact
 
 clash : {A : Type 0} → false ≡ true → A
-clash e = let z : _≡_ {A = ℕ} 0 1 = cc in absurd (omega arith)
+clash e = absurd (true≢false (sym e))
 
 in-order : (t u f : Bool) {lines operands room : Type 0} → Exactly (t ≡ true) lines → Exactly (u ≡ true) operands → Exactly (f ≡ true) room
     → {number : ℕ} → number ≡ ((unless t 5 then unless u 6) then unless f 13) → InOrder lines operands room number

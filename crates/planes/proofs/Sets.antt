@@ -6,7 +6,7 @@ use mathlib.Core.List.{List, [], _∷_}
 use native.Mathlib.Nat.{pow-suc, mod-lt, mod-one, not-suc-le-zero}
 use native.Mathlib.Omega.{arith}
 use borrow.Author.Tests.{lt-ltb, le-ltb}
-use lib.Dec.{ltb, leb·suc-suc}
+use lib.Dec.{eqb, ltb, eqb·suc-zero, eqb·suc-suc, leb·suc-suc}
 use lib.Arith.{mod-mul}
 use lib.ListN.{length, getD, take}
 use lib.Pow.{pow-pos}
@@ -95,3 +95,20 @@ module _ (x : ℕ) where
       let even : x % 2 ≡ 0 → withoutLowest x % 2 ≡ 0 = λ e. rw (and-step x (x - 1), e) (omega arith) in
       let odd : x % 2 ≡ 1 → withoutLowest x % 2 ≡ 0 = λ e. let d : (x - 1) % 2 ≡ 0 = omega arith in rw (and-step x (x - 1), d) (omega arith) in
       two (λ y. x % 2 ≡ y → withoutLowest x % 2 ≡ 0) even odd (x % 2) (mod-lt x (omega arith)) refl
+
+-- bit by bit
+pub rest-bit : (n x i : ℕ) → x < 2 ^ n → bit i (withoutLowest x) ≡ cond (eqb i (trailingZeros n x)) 0 (bit i x)
+unfolding trailingZeros
+rest-bit zero x i h = let none : x ≡ 0 = omega arith in rw (none, bit-zero i) (split (eqb i 0) (λ e. rw e) (λ e. rw e))
+rest-bit (suc n) x zero h =
+    let t = trailingZeros n (x / 2) in
+    rw (bit-first (withoutLowest x), lowest-gone x, bit-first x)
+    (two (λ y. 0 ≡ cond (eqb 0 (under y t)) 0 y) (split (eqb 0 (under 0 t)) (λ e. rw e) (λ e. rw e)) refl (x % 2) (mod-lt x (omega arith)))
+rest-bit (suc n) x (suc i) h =
+    let small = rw pow-suc at h in
+    let t = trailingZeros n (x / 2) in
+    rw (bit-half i (withoutLowest x), bit-half i x)
+    (two (λ y. x % 2 ≡ y → bit i (withoutLowest x / 2) ≡ cond (eqb (suc i) (under y t)) 0 (bit i (x / 2)))
+    (λ e. rw (even-half x e, eqb·suc-suc i t) (rest-bit n (x / 2) i (omega arith)))
+    (λ e. rw (odd-half x e, eqb·suc-zero i))
+    (x % 2) (mod-lt x (omega arith)) refl)

@@ -13,7 +13,7 @@ unfoldable pub setOf : {A : Type 0} → (A → Bool) → List A → ℕ
 setOf p [] = 0
 setOf p (x ∷ xs) = cond (p x) 1 0 + 2 * setOf p xs
 
--- a set without its lowest element
+-- a set without its lowest element: bit i is 1 where it was and i is not the lowest (`rest-bit`, planes/proofs/Sets.antt)
 abbrev pub withoutLowest : ℕ → ℕ
 withoutLowest x = bitAnd x (x - 1)
 

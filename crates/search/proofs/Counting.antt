@@ -92,12 +92,12 @@ look-first (suc w) (suc n) x l h some =
 
 -- ---- the loop
 
--- `left` of the label's messages among n begins with number `place` of them
-pub record Going (label : ℕ) (ms : List Message) (n left place : ℕ) : Type 0 where
-  pub begun : 1 ≤ place
-  pub most : place ≤ 4
+-- `left` of the label's messages among n begins with the nth of them
+pub record Going (label : ℕ) (ms : List Message) (n left nth : ℕ) : Type 0 where
+  pub begun : 1 ≤ nth
+  pub most : nth ≤ 4
   pub within : left < 2 ^ n
-  pub answer : lookIn n left (5 - place) ≡ lookFor label ms 4
+  pub answer : lookIn n left (5 - nth) ≡ lookFor label ms 4
 
 module _ (label : ℕ) (ms : List Message) (n left : ℕ) where
   pub going-first : n ≡ length ms → left ≡ setOf (λ m. eqb (m .label) label) ms → Going label ms n left 1
@@ -109,20 +109,20 @@ module _ (label : ℕ) (ms : List Message) (n left : ℕ) where
         answer = rw (count, set) (look-set label ms 4);
       }
 
-  pub going-next : (place : ℕ) → place < 4 → Going label ms n left place → Going label ms n (withoutLowest left) (place + 1)
-  going-next place early g =
-      let fewer : 5 - (place + 1) ≡ suc (3 - place) = omega arith in
-      let more : 5 - place ≡ suc (suc (3 - place)) = omega (arith, g .begun) in
+  pub going-next : (nth : ℕ) → nth < 4 → Going label ms n left nth → Going label ms n (withoutLowest left) (nth + 1)
+  going-next nth early g =
+      let fewer : 5 - (nth + 1) ≡ suc (3 - nth) = omega arith in
+      let more : 5 - nth ≡ suc (suc (3 - nth)) = omega (arith, g .begun) in
       record {
         begun = omega arith;
         most = omega arith;
         within = omega (arith, and-le-l left (left - 1), g .within);
-        answer = rw fewer (look-rest n left (3 - place)) ∙ rw more at (g .answer);
+        answer = rw fewer (look-rest n left (3 - nth)) ∙ rw more at (g .answer);
       }
 
-  module _ (place : ℕ) (late : 4 ≤ place) (g : Going label ms n left place) where
+  module _ (nth : ℕ) (late : 4 ≤ nth) (g : Going label ms n left nth) where
     at-fourth : lookIn n left 1 ≡ lookFor label ms 4
-    at-fourth = let one : 5 - place ≡ 1 = omega (arith, g .most) in rw one at (g .answer)
+    at-fourth = let one : 5 - nth ≡ 1 = omega (arith, g .most) in rw one at (g .answer)
 
     pub going-none : left ≡ 0 → record { room = true; looked = n } ≡ lookFor label ms 4
     going-none none = sym (look-none n 0) ∙ ap (λ (x : ℕ). lookIn n x 1) (sym none) ∙ at-fourth

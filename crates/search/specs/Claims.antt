@@ -19,17 +19,17 @@ NoneBehindTheFourth =
     (label : ℕ) (mailbox others : List Message) → look label mailbox .room ≡ false
     → look label (take (look label mailbox .looked) mailbox ++ others) ≡ look label mailbox
 
--- where the message of a label stands that has n of the label ahead of it
-pub record Place (n label : ℕ) (mailbox : List Message) : Type 0 where
+-- where the nth message of a label stands
+pub record Nth (n label : ℕ) (mailbox : List Message) : Type 0 where
   pub ahead : List Message
   pub here : Message
   pub behind : List Message
   pub whole : mailbox ≡ ahead ++ (here ∷ behind)
-  pub count : length (ofLabel label ahead) ≡ n
+  pub count : suc (length (ofLabel label ahead)) ≡ n
   pub ofTheLabel : here .label ≡ label
 
 abbrev pub Fourth : ℕ → List Message → Type 0
-Fourth = Place 3
+Fourth = Nth 4
 
 -- "tell how many it looked at: up to the fourth, that one included, or the whole mailbox where fewer are there"
 pub record TellsHowMany : Type 0 where

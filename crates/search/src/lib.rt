@@ -14,7 +14,7 @@ ghost use Rattle.table.specs.Change.{Used, taskAt};
 ghost use Rattle.search.specs.Look.{look};
 
 // How many messages of a label a mailbox may hold.
-const LIMIT: usize = 4;
+const LIMIT_PER_LABEL: usize = 4;
 
 // ---- sets of messages
 
@@ -100,17 +100,17 @@ pub fn look(t: &table::Table, s: usize, label: u8) -> Looked
     ensures { λ r. ⌜ r ≡ look label (taskAt (slotsIn (now (t .entry))) s .mailbox) ⌝ }
 {
     let n = table::mailbox_length(t, s);
-    if n < LIMIT {
+    if n < LIMIT_PER_LABEL {
         return Looked {
             room: true,
             looked: n,
         };
     }
     let mut left = of_label(t, s, label);
-    let mut place: usize = 1;
-    while place < LIMIT {
+    let mut nth: usize = 1;
+    while nth < LIMIT_PER_LABEL {
         left = planes::rest(left);
-        place += 1;
+        nth += 1;
     }
     if left == 0 {
         Looked {

@@ -158,7 +158,7 @@ fn mail(t: &Table, s: usize, i: usize) -> u64
     word(t, s, RING + (ring_start(t, s) + i) % MAILBOX_ROOM)
 }
 
-// Plane b of slot s.
+// Plane b of slot s: its bit i is bit b of the label of message i.
 pub fn plane(t: &Table, s: usize, b: usize) -> u64
     requires { ⌜ (s < 16) × (b < 4) ⌝ }
     ensures { λ r. ⌜ r ≡ planeIn (window (now (t .entry)) s) b ⌝ }

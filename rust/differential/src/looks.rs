@@ -41,11 +41,10 @@ pub fn run(tally: &mut LooksTally, program: &OsStr, input: &[u8]) -> Result<(), 
     }
     tally.refused += u64::from(printed.is_empty());
     for told in printed.chunks_exact(2) {
-        match *told {
-            [0, 0] => tally.unused += 1,
-            [0, looked] => tally.fourth[usize::from(looked)] += 1,
-            [_, looked] => tally.room[usize::from(looked)] += 1,
-            _ => {}
+        match (told[0], told[1]) {
+            (0, 0) => tally.unused += 1,
+            (0, looked) => tally.fourth[usize::from(looked)] += 1,
+            (_, looked) => tally.room[usize::from(looked)] += 1,
         }
     }
     Ok(())

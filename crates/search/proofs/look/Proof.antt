@@ -11,10 +11,10 @@ use Rattle.search.proofs.look.Statement.{statement}
 use Rattle.search.proofs.look.Tie as tie
 
 abbrev Inv-loop : tie.InvT-loop
-Inv-loop t s label n left₀ place₀ left place = Going label (taskAt (slotsIn t) s .mailbox) n left place
+Inv-loop t s label n left₀ nth₀ left nth = Going label (taskAt (slotsIn t) s .mailbox) n left nth
 
 abbrev μ-loop : tie.MeasureT-loop
-μ-loop t s label n left₀ place₀ left place = 4 - place
+μ-loop t s label n left₀ nth₀ left nth = 4 - nth
 
 returns : tie.Need-returns Inv-loop μ-loop
 returns c =
@@ -29,16 +29,16 @@ loop-holds c =
     going-first (a .label) (taskAt (slotsIn (now (a .t))) (a .s) .mailbox) (n .result) (c .of-label .result) (n .ensures .0) (c .of-label .ensures)
 
 loop-again : tie.Need-loop-again Inv-loop μ-loop
-loop-again c = let h = c .before .before .loop in rw (c .rest .ensures) (going-next _ _ _ (h .left) (h .place) (omega arith) (h .inv))
+loop-again c = let h = c .before .before .loop in rw (c .rest .ensures) (going-next _ _ _ (h .left) (h .nth) (omega arith) (h .inv))
 
 returns-2 : tie.Need-returns-2 Inv-loop μ-loop
-returns-2 c = let h = c .before .before .loop in going-none _ _ _ (h .left) (h .place) (omega arith) (h .inv) (c .if2 .taken)
+returns-2 c = let h = c .before .before .loop in going-none _ _ _ (h .left) (h .nth) (omega arith) (h .inv) (c .if2 .taken)
 
 returns-3 : tie.Need-returns-3 Inv-loop μ-loop
 returns-3 c =
     let h = c .before .before .loop in
     let n = c .before .before .before .before .before .mailbox-length in
-    going-some _ _ _ (h .left) (h .place) (omega arith) (h .inv) (n .ensures .1) (c .if2 .left)
+    going-some _ _ _ (h .left) (h .nth) (omega arith) (h .inv) (n .ensures .1) (c .if2 .left)
 
 pub look-spec : {M : Type 1} → statement M
 look-spec =
