@@ -2,16 +2,16 @@
 use Prim.Native.Nat.{ℕ}
 use mathlib.Core.Path.{_≡_, refl}
 use mathlib.Core.Bool.{and-true}
-use mathlib.Core.List.{List, [], _∷_, _++_}
+use mathlib.Core.List.{List, [], _∷_}
 use borrow.Author.Tests.{ne-eqb}
 use lib.Dec.{eqb}
-use lib.ListN.{take}
+use lib.ListN.{drop}
 use Rattle.wire.proofs.Lists.{split}
 use Rattle.instruction.specs.declared.Instruction.{Instruction}
-use Rattle.instruction.specs.declared.Instruction.the-variants.{Identity}
+use Rattle.instruction.specs.declared.Instruction.the-variants.{End}
 use Rattle.instruction.specs.declared.Decoded.{Decoded}
 use Rattle.instruction.specs.declared.Decoded.the-variants.{Illegal}
-use Rattle.instruction.specs.Table.{R, blank, Row, row, table, byCode, decodeBy, decode}
+use Rattle.instruction.specs.Table.{blank, Row, row, table, byCode, decodeBy, decode}
 use Rattle.instruction.specs.Inner.{formOf}
 
 -- where the code is the number k, the table computes to k's row
@@ -22,7 +22,7 @@ decode-at d n code k a b c e h = rw e h
 -- an operand that may be any byte is not tested in the code
 pub ruleset by-row = (decode-at, and-true)
 
-pub form-at : (i : Instruction) (code k a b c : ℕ) → code ≡ k → i ≡ byCode (λ r. r .form a b c) (Identity a b) table k → i ≡ formOf code a b c
+pub form-at : (i : Instruction) (code k a b c : ℕ) → code ≡ k → i ≡ byCode (λ r. r .form a b c) End table k → i ≡ formOf code a b c
 unfolding formOf
 form-at i code k a b c e h = rw e h
 
@@ -49,13 +49,10 @@ pub decode-none : (n code a b c : ℕ) → NoRow (Unit {0}) code table → Illeg
 unfolding decode
 decode-none n code a b c = none-by-code (decodeBy n a b c) Illegal code
 
--- of a code that no row but the last has, where the last gives what is given without a row
-rows-but-last : {A : Type 0} (f : Row → A) (P : Type 0) (rs : List Row) (r : Row) (code : ℕ) → NoRow P code rs → f r ≡ byCode f (f r) (rs ++ (r ∷ [])) code
-rows-but-last f P [] r code p = split (eqb code (r .code)) (λ t. rw t) (λ t. rw t)
-rows-but-last f P (q ∷ rs) r code p =
-    let ih = rows-but-last f (P × (code ≡ q .code → ⊥)) rs r code p in
-    rw (ne-eqb code (q .code) (given-ahead (P × (code ≡ q .code → ⊥)) code rs p .1)) ih
+-- of a code that no row but the first has, where the first gives what is given without a row
+rows-but-first : {A : Type 0} (f : Row → A) (r : Row) (rs : List Row) (code : ℕ) → NoRow (Unit {0}) code rs → f r ≡ byCode f (f r) (r ∷ rs) code
+rows-but-first f r rs code none = split (eqb code (r .code)) (λ t. rw t) (λ t. rw t (no-row f (f r) (Unit {0}) rs code none))
 
-pub form-last : (code a b c : ℕ) → NoRow (Unit {0}) code (take 12 table) → Identity a b ≡ formOf code a b c
+pub form-first : (code a b c : ℕ) → NoRow (Unit {0}) code (drop 1 table) → End ≡ formOf code a b c
 unfolding formOf
-form-last code a b c = rows-but-last (λ r. r .form a b c) (Unit {0}) (take 12 table) (row 0x0C "self" R R blank (λ a b c. Identity a b)) code
+form-first code a b c = rows-but-first (λ r. r .form a b c) (row 0x00 "end" blank blank blank (λ a b c. End)) (drop 1 table) code

@@ -73,7 +73,7 @@ row-form true i e = refl
 row-form false i e = cc
 
 rows-form : (rs : List Row) (n code a b c : ℕ) → isLegal (byCode (decodeBy n a b c) Illegal rs code) ≡ true
-    → byCode (decodeBy n a b c) Illegal rs code ≡ Legal (byCode (λ r. r .form a b c) (Identity a b) rs code)
+    → byCode (decodeBy n a b c) Illegal rs code ≡ Legal (byCode (λ r. r .form a b c) End rs code)
 rows-form [] n code a b c e = cc
 rows-form (r ∷ rs) n code a b c e =
     let ih = rows-form rs n code a b c in
