@@ -3,33 +3,31 @@ use Prim.Native.Nat.{ℕ, _+_, _-_, _*_, _^_, _%_, _<_, _≤_}
 use mathlib.Core.Logic.{_≢_}
 use mathlib.Core.Path.{_≡_, refl, sym, ap, subst, _∙_}
 use mathlib.Core.Bool.{Bool, true, false, _&&_}
-use mathlib.Core.Option.{Option, none, some}
 use mathlib.Core.List.{List}
 use native.Mathlib.Omega.{arith}
-use borrow.Author.Tests.{le-leb, lt-leb, ne-eqb}
-use lib.Dec.{eqb}
+use borrow.Author.Tests.{le-leb, lt-leb, lt-ltb, ne-eqb}
+use lib.Dec.{ltb, eqb}
 use lib.ListN.{length, set, List·getD-eq-default}
 use lib.Seq.{set-getD}
 use Rattle.label.specs.Label.{flows, join}
-use Rattle.wire.specs.Lists.{dropFirst}
-use Rattle.wire.specs.Inner.{without, firstIndex}
-use Rattle.wire.proofs.Lists.{and-both, first-none, first-some, first-without}
+use Rattle.wire.proofs.Lists.{and-both, first-none, first-some}
 use Rattle.instruction.specs.declared.Instruction.{Instruction}
 use Rattle.instruction.specs.declared.Instruction.the-variants.{End, Set, Copy, Add, Subtract, Go, Zero, Raise, Send, Take, Poll, Sandbox, Identity}
 use Rattle.instruction.specs.Program.{count}
 use Rattle.instruction.proofs.Table.{Sound, decode-sound}
 use Rattle.machine.specs.Limits.{highestLabel}
-use Rattle.machine.specs.State.{Message, Task, Slot, unused, used, State, slotAt, isLive, hasLiveTask, withLabel, withSpare, withPc, register, withRegister, next}
-use Rattle.machine.specs.Effect.{Action, noAction, deliver, spawn, Outcome, withoutAction, stopped, childOf, receivable, oldest, taken, execute}
+use Rattle.machine.specs.State.{Message, Task, Slot, unused, used, State, slotAt, isLive, hasLiveTask, withLabel, withSpare, withPc, register, withRegister, next, withoutMessage}
+use Rattle.machine.specs.declared.Found.{Found}
+use Rattle.machine.specs.Effect.{Action, noAction, deliver, spawn, Outcome, withoutAction, stopped, receives, childOf, receivable, find, found, execute}
 use Rattle.machine.specs.Turn.{hasRoom, enqueue, perform, applied}
 use Rattle.machine.specs.Post.{mailOf, hasMore}
 use Rattle.machine.specs.Valid.{Valid}
 use Rattle.machine.proofs.Rules.{SlotFacts, slot-facts}
 use Rattle.machine.proofs.Mailbox.{mailbox-room}
 use Rattle.machine.proofs.Post.{deliver-more}
-use Rattle.table.specs.Change.{noMessage, taskOr, taskAt, Used, messageAt, changeSlot, change, slotWithKind, withMessage, withoutMessage}
+use Rattle.table.specs.Change.{taskOr, taskAt, Used, messageAt, changeSlot, change, slotWithKind, withMessage}
 use Rattle.table.proofs.Change.{change-same, change-none, change-set, change-at, change-here}
-use Rattle.effect.specs.Effects.{executed, accepts, RoomFor, GoesOn, Ready, WasDecoded, isGiven}
+use Rattle.effect.specs.Effects.{executed, accepts, RoomFor, GoesOn, Ready, WasDecoded}
 
 -- what y is added to where the sum wraps to x
 subtracted : (z x y : ℕ) → z < 2 ^ 32 → y < 2 ^ 32 → (z + y) % 2 ^ 32 ≡ x → z ≡ (x + 2 ^ 32 - y) % 2 ^ 32
@@ -38,6 +36,12 @@ subtracted z x y h g e = omega arith
 -- the place that was read, and 1 more
 pub place-up : (s : ℕ) (ss : List Slot) → change s (withPc (taskAt ss s .pc + 1)) ss ≡ change s next ss
 place-up s ss = change-same ss s (withPc (taskAt ss s .pc + 1)) next (λ t e. rw e)
+
+-- the message that was read goes
+pub message-out : (s a b i : ℕ) (ss : List Slot) {x y : ℕ} → x ≡ messageAt ss s i .value → y ≡ messageAt ss s i .sender
+    → change s (λ t. next (withRegister b y (withRegister a x (withoutMessage i t)))) ss ≡ change s (receives a b i) ss
+message-out s a b i ss {x} {y} e f =
+    change-same ss s (λ t. next (withRegister b y (withRegister a x (withoutMessage i t)))) (receives a b i) (λ t h. rw (e, f, h))
 
 -- ---- what an instruction comes to: its task stops, or changes and then acts
 
@@ -122,49 +126,36 @@ module _ {s : ℕ} {ss : List Slot} (ready : Ready s ss) where
     unfolding execute
     send-stopped refused = stops (Send a b c) 4 refl (rw (← label, refused))
 
-  -- i is the index of the first message whose label flows to the task's
-  module _ (a b : ℕ) {own i : ℕ} (label : own ≡ taskAt ss s .label) (first : i ≡ firstIndex (λ m. flows (m .label) own) (taskAt ss s .mailbox)) where
-    is-first : i ≡ firstIndex (receivable flows (taskAt ss s)) (taskAt ss s .mailbox)
-    is-first = first ∙ rw label
+  -- f is what the task's own search told
+  module _ (a b : ℕ) {own : ℕ} {f : Found} (label : own ≡ taskAt ss s .label) (told : f ≡ find flows own (taskAt ss s .mailbox)) where
+    own-oldest : f .oldest ≡ found flows (taskAt ss s) .oldest
+    own-oldest = ap (λ (x : Found). x .oldest) told ∙ rw label
 
-    pub take-some : i < length (taskAt ss s .mailbox)
-        → (change s (λ t. next (withRegister b (messageAt ss s i .sender) (withRegister a (messageAt ss s i .value) (withoutMessage i t)))) ss
-        ≡ executed (Take a b) s ss) × (true ≡ isGiven (oldest flows (taskAt ss s)))
+    pub take-some : f .oldest < length (taskAt ss s .mailbox)
+        → (change s (receives a b (f .oldest)) ss ≡ executed (Take a b) s ss) × (true ≡ ltb 0 (found flows (taskAt ss s) .receivable))
     unfolding execute
     take-some inside =
         let t = taskAt ss s in
-        let p = receivable flows t in
-        let m = messageAt ss s i in
-        let given : oldest flows t ≡ some m = rw is-first (first-some p (t .mailbox) noMessage (rw (← is-first) inside)) in
-        let gone : without i (t .mailbox) ≡ dropFirst p (t .mailbox) = rw is-first (first-without p (t .mailbox)) in
-        let took : Task → Task = λ t. next (withRegister b (m .sender) (withRegister a (m .value) (withoutMessage i t))) in
-        (alone (Take a b) took (rw (given, gone)), rw given)
+        let some : ltb 0 (found flows t .receivable) ≡ true
+        = lt-ltb 0 (found flows t .receivable) (first-some (receivable flows (t .label)) (t .mailbox) (omega (arith, own-oldest))) in
+        (alone (Take a b) (receives a b (f .oldest)) (rw (own-oldest, some)), sym some)
 
-    pub take-none : length (taskAt ss s .mailbox) ≤ i → (ss ≡ executed (Take a b) s ss) × (false ≡ isGiven (oldest flows (taskAt ss s)))
+    pub take-none : length (taskAt ss s .mailbox) ≤ f .oldest → (ss ≡ executed (Take a b) s ss) × (false ≡ ltb 0 (found flows (taskAt ss s) .receivable))
     unfolding execute
     take-none past =
-        let none-given : oldest flows (taskAt ss s) ≡ none = first-none (receivable flows (taskAt ss s)) (taskAt ss s .mailbox) (rw (← is-first) past) in
-        (sym (change-none ss s (λ t. t) (λ t e. refl)) ∙ alone (Take a b) (λ t. t) (rw none-given), rw none-given)
+        let t = taskAt ss s in
+        let none : ltb 0 (found flows t .receivable) ≡ false
+        = rw (first-none (receivable flows (t .label)) (t .mailbox) (omega (arith, own-oldest))) in
+        (sym (change-none ss s (λ t. t) (λ t e. refl)) ∙ alone (Take a b) (λ t. t) (rw none), sym none)
 
-  -- as take, where a message was given
-  pub poll-some : (a b c : ℕ) → isGiven (oldest flows (taskAt ss s)) ≡ true → executed (Take a b) s ss ≡ executed (Poll a b c) s ss
+  -- as take, where something is receivable
+  pub poll-some : (a b c : ℕ) → ltb 0 (found flows (taskAt ss s) .receivable) ≡ true → executed (Take a b) s ss ≡ executed (Poll a b c) s ss
   unfolding executed execute
-  poll-some a b c e = ap (λ (o : Outcome). applied s o ss) (same (oldest flows (taskAt ss s)) e)
-    where
-      same : (o : Option Message) → isGiven o ≡ true
-          → taken flows a b (taskAt ss s) (taskAt ss s) o ≡ taken flows a b (withPc c (taskAt ss s)) (taskAt ss s) o
-      same none e = cc
-      same (some m) e = refl
+  poll-some a b c e = rw e
 
-  pub poll-none : (a b c : ℕ) → isGiven (oldest flows (taskAt ss s)) ≡ false → change s (withPc c) (executed (Take a b) s ss) ≡ executed (Poll a b c) s ss
+  pub poll-none : (a b c : ℕ) → ltb 0 (found flows (taskAt ss s) .receivable) ≡ false → change s (withPc c) (executed (Take a b) s ss) ≡ executed (Poll a b c) s ss
   unfolding executed execute
-  poll-none a b c e = moved (oldest flows (taskAt ss s)) e
-    where
-      moved : (o : Option Message) → isGiven o ≡ false
-          → change s (withPc c) (applied s (taken flows a b (taskAt ss s) (taskAt ss s) o) ss)
-          ≡ applied s (taken flows a b (withPc c (taskAt ss s)) (taskAt ss s) o) ss
-      moved none e = change-set s (withPc c) ss (used (taskAt ss s))
-      moved (some m) e = cc
+  poll-none a b c e = rw e (change-set s (withPc c) ss (used (taskAt ss s)))
 
   -- ---- new tasks
 

@@ -2,7 +2,6 @@
 use Prim.Native.Nat.{ℕ, _+_, _≤_, _<_}
 use mathlib.Core.Path.{_≡_}
 use mathlib.Core.Bool.{Bool, true, false, _&&_}
-use mathlib.Core.Option.{Option, none, some}
 use mathlib.Core.List.{List}
 use lib.ListN.{length}
 use Rattle.label.specs.Label.{flows, join}
@@ -49,8 +48,3 @@ pub record WasDecoded (i : Instruction) : Type 0 where
   pub b : ℕ
   pub c : ℕ
   pub legal : decode n code a b c ≡ Legal i
-
--- whether there is a message
-abbrev pub isGiven : Option Message → Bool
-isGiven none = false
-isGiven (some m) = true

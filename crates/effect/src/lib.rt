@@ -1,17 +1,18 @@
 // The effect of each instruction on the table, and a message's delivery. They rest on a slot that is ready for an instruction.
 ghost use Prim.Native.Nat.{_≤_, _<_};
 ghost use mathlib.Core.Path.{_≡_};
+ghost use lib.Dec.{ltb};
 ghost use lib.ListN.{length, set};
 ghost use Rattle.label.specs.Label.{flows};
 ghost use Rattle.instruction.specs.declared.Instruction.the-variants.{Copy, Add, Subtract, Zero, Raise, Send, Take, Poll, Sandbox, Identity};
 ghost use Rattle.machine.specs.Limits.{highestLabel};
 ghost use Rattle.machine.specs.State.{used, slotAt, withRegister, next};
-ghost use Rattle.machine.specs.Effect.{childOf, oldest, deliver};
+ghost use Rattle.machine.specs.Effect.{receives, childOf, found, deliver};
 ghost use Rattle.machine.specs.Turn.{perform};
 ghost use Rattle.machine.specs.Post.{hasMore};
 ghost use Rattle.table.specs.Table.{slotsIn};
-ghost use Rattle.table.specs.Change.{taskAt, messageAt, change, withoutMessage};
-ghost use Rattle.effect.specs.Effects.{executed, accepts, RoomFor, GoesOn, Ready, WasDecoded, isGiven};
+ghost use Rattle.table.specs.Change.{taskAt, change};
+ghost use Rattle.effect.specs.Effects.{executed, accepts, RoomFor, GoesOn, Ready, WasDecoded};
 use instruction::Instruction;
 
 // ---- registers and place
@@ -147,9 +148,7 @@ fn send(table: &mut table::Table, slot: u8, a: u8, b: u8, c: u8)
 // Message i goes: its value into register a, then its sender into register b.
 fn take_message(table: &mut table::Table, slot: u8, i: usize, a: u8, b: u8)
     requires { ⌜ GoesOn slot (slotsIn (now table)) × (i < length (taskAt (slotsIn (now table)) slot .mailbox)) × (a < 8) × (b < 8) ⌝ }
-    ensures { λ _. ⌜ slotsIn (now (table .exit))
-        ≡ change slot (λ t. next (withRegister b (messageAt (slotsIn (now (table .entry))) slot i .sender)
-        (withRegister a (messageAt (slotsIn (now (table .entry))) slot i .value) (withoutMessage i t)))) (slotsIn (now (table .entry))) ⌝ }
+    ensures { λ _. ⌜ slotsIn (now (table .exit)) ≡ change slot (receives a b i) (slotsIn (now (table .entry))) ⌝ }
 {
     let value = table::message_value(table, slot as usize, i);
     let sender = table::message_sender(table, slot as usize, i);
@@ -158,14 +157,15 @@ fn take_message(table: &mut table::Table, slot: u8, i: usize, a: u8, b: u8)
     gets(table, slot, b, sender as u32);
 }
 
-// Takes the oldest receivable message: whether there was one.
+// Takes the oldest receivable message: whether one was receivable. The search says so by an index that is there, and the count is
+// not asked for.
 fn take(table: &mut table::Table, slot: u8, a: u8, b: u8) -> bool
     requires { ⌜ Ready slot (slotsIn (now table)) × (a < 8) × (b < 8) ⌝ }
     ensures { λ r. ⌜ (slotsIn (now (table .exit)) ≡ executed (Take a b) slot (slotsIn (now (table .entry))))
-        × (r ≡ isGiven (oldest flows (taskAt (slotsIn (now (table .entry))) slot))) ⌝ }
+        × (r ≡ ltb 0 (found flows (taskAt (slotsIn (now (table .entry))) slot) .receivable)) ⌝ }
 {
     let own = table::label(table, slot as usize);
-    let i = search::oldest(table, slot as usize, own);
+    let i = search::find(table, slot as usize, own).oldest;
     if i < table::mailbox_length(table, slot as usize) {
         take_message(table, slot, i, a, b);
         true

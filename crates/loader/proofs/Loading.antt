@@ -19,7 +19,7 @@ use Rattle.machine.proofs.Rules.{MessageFacts, MailboxFacts, task-facts}
 use Rattle.machine.proofs.Mailbox.{mailbox-64}
 use Rattle.wire.specs.Items.{decodeItems}
 use Rattle.wire.proofs.Items.{length-decode, getD-decode, decode-more}
-use Rattle.machine.specs.State.{Message, Task, Slot, unused, used, slotAt, withRegister, withRegisters, withMailbox}
+use Rattle.machine.specs.State.{Message, Task, Slot, unused, used, slotAt, withRegister, withRegisters, withMailbox, noMessage}
 use Rattle.image.specs.Record.{messageOf, taskOf, slotOf, taskBytes}
 use Rattle.image.specs.Image.{recordOf, skip, slotsOf, slotsPart, programOf, stateOf}
 use Rattle.image.specs.Refusal.{imageNumber}
@@ -27,7 +27,7 @@ use Rattle.image.proofs.Slots.{length-slotsOf, slot-at}
 use Rattle.image.proofs.Image.{accepted-valid, record-accepted}
 use Rattle.image.proofs.Records.{slot-some, task-length}
 use Rattle.table.specs.Table.{held}
-use Rattle.table.specs.Change.{noMessage, taskAt, Used, changeSlot, change, withMail, opened, newTask}
+use Rattle.table.specs.Change.{taskAt, Used, changeSlot, change, withMail, opened, newTask}
 use Rattle.table.proofs.Change.{change-same, change-none, change-set, change-at, change-change, opened-length, opened-label}
 use Rattle.loader.specs.Loading.{LabelsFit, Loadable, LoadableSlots, registersSet, mailSet, messagesOf, labelsOf}
 

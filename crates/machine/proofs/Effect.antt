@@ -3,12 +3,11 @@
 use Prim.Native.Nat.{ℕ, suc, _+_, _≤_}
 use mathlib.Core.Path.{_≡_, refl}
 use mathlib.Core.Bool.{Bool, true}
-use mathlib.Core.Option.{Option, none, some}
 use mathlib.Core.List.{List}
 use native.Mathlib.Omega.{arith}
 use borrow.Author.Tests.{leb-true}
-use lib.Dec.{leb, eqb}
-use Rattle.wire.proofs.Lists.{split, keep-keep, dropFirst-keep}
+use lib.Dec.{leb, ltb, eqb}
+use Rattle.wire.proofs.Lists.{split, keep-keep, first-keep, without-keep}
 use Rattle.label.proofs.Order.{Order, DownClosed}
 use Rattle.instruction.specs.declared.Instruction.{Instruction}
 use Rattle.instruction.specs.declared.Instruction.the-variants.{End, Set, Copy, Add, Subtract, Go, Zero, Raise, Send, Take, Poll, Sandbox, Identity}
@@ -17,8 +16,8 @@ use Rattle.instruction.specs.declared.Decoded.the-variants.{Legal, Illegal}
 use Rattle.instruction.specs.Program.{count, instructionAt}
 use Rattle.instruction.proofs.Table.{Sound}
 use Rattle.instruction.proofs.Program.{at-sound}
-use Rattle.machine.specs.State.{Message, Task, register, withPc}
-use Rattle.machine.specs.Effect.{Action, noAction, deliver, spawn, Outcome, withoutAction, receivable, oldest, taken, execute, carriedOut, outcome}
+use Rattle.machine.specs.State.{Message, Task, withPc, noMessage, register}
+use Rattle.machine.specs.Effect.{Action, noAction, deliver, spawn, Outcome, withoutAction, receives, receivable, found, taken, execute, carriedOut, outcome}
 use Rattle.machine.specs.View.{viewTask}
 
 -- the outcome with the hidden messages of its task left out
@@ -39,17 +38,26 @@ module _ (mayFlow : ℕ → ℕ → Bool) where
   module _ (joined : ℕ → ℕ → ℕ) (order : Order mayFlow joined) where
     -- ---- a task that the observer sees
     module _ (sees : ℕ → Bool) (down : DownClosed mayFlow sees) (t : Task) (seen : sees (t .label) ≡ true) where
+      abbrev here : Message → Bool
+      here = receivable mayFlow (t .label)
+
+      abbrev shown : Message → Bool
+      shown m = sees (m .label)
+
       -- what the task may receive the observer sees
-      receivable-seen : (m : Message) → receivable mayFlow t m ≡ true → sees (m .label) ≡ true
+      receivable-seen : (m : Message) → here m ≡ true → shown m ≡ true
       receivable-seen m h = down (m .label) (t .label) h seen
 
-      oldest-view : oldest mayFlow (viewTask sees t) ≡ oldest mayFlow t
-      oldest-view = rw (keep-keep (receivable mayFlow t) (λ m. sees (m .label)) receivable-seen)
+      -- so as many are receivable, and the same one is the oldest
+      count-view : found mayFlow (viewTask sees t) .receivable ≡ found mayFlow t .receivable
+      count-view = rw (keep-keep here shown receivable-seen)
 
-      taken-view : (a b : ℕ) (otherwise : Task) (o : Option Message)
-          → taken mayFlow a b (viewTask sees otherwise) (viewTask sees t) o ≡ viewOutcome sees (taken mayFlow a b otherwise t o)
-      taken-view a b otherwise none = refl
-      taken-view a b otherwise (some m) = rw (dropFirst-keep (receivable mayFlow t) (λ m. sees (m .label)) receivable-seen)
+      receives-view : (a b : ℕ) → receives a b (found mayFlow (viewTask sees t) .oldest) (viewTask sees t) ≡ viewTask sees (receives a b (found mayFlow t .oldest) t)
+      receives-view a b = rw (first-keep here shown receivable-seen noMessage, without-keep here shown receivable-seen)
+
+      taken-view : (a b : ℕ) (otherwise : Task) → taken mayFlow a b (viewTask sees otherwise) (viewTask sees t) ≡ viewOutcome sees (taken mayFlow a b otherwise t)
+      taken-view a b otherwise =
+          rw (count-view, receives-view a b) (split (ltb 0 (found mayFlow t .receivable)) (λ e. rw e) (λ e. rw e))
 
       execute-view : (i : Instruction) (s : ℕ) → execute mayFlow joined i s (viewTask sees t) ≡ viewOutcome sees (execute mayFlow joined i s t)
       unfolding execute
@@ -62,8 +70,8 @@ module _ (mayFlow : ℕ → ℕ → Bool) where
       execute-view (Zero a b) s = split (eqb (register t a) 0) (λ e. rw e) (λ e. rw e)
       execute-view (Raise a) s = refl
       execute-view (Send a b c) s = split (mayFlow (t .label) b) (λ e. rw e) (λ e. rw e)
-      execute-view (Take a b) s = rw oldest-view (taken-view a b t (oldest mayFlow t))
-      execute-view (Poll a b c) s = rw oldest-view (taken-view a b (withPc c t) (oldest mayFlow t))
+      execute-view (Take a b) s = taken-view a b t
+      execute-view (Poll a b c) s = taken-view a b (withPc c t)
       execute-view (Sandbox a b c) s = split (leb c (t .spare)) (λ e. rw e) (λ e. rw e)
       execute-view (Identity a b) s = refl
 
@@ -82,9 +90,8 @@ module _ (mayFlow : ℕ → ℕ → Bool) where
       withoutAction-contained : (t′ : Task) → t .label ≡ t′ .label → t .spare ≡ t′ .spare → Contained s t (withoutAction t′)
       withoutAction-contained t′ l k = record { rises = rw l (order .reflexive (t′ .label)); allowed = omega arith }
 
-      taken-contained : (a b : ℕ) (otherwise : Task) → Contained s t (withoutAction otherwise) → (o : Option Message) → Contained s t (taken mayFlow a b otherwise t o)
-      taken-contained a b otherwise h none = h
-      taken-contained a b otherwise h (some m) = withoutAction-contained _ refl refl
+      taken-contained : (a b : ℕ) (otherwise : Task) → Contained s t (withoutAction otherwise) → Contained s t (taken mayFlow a b otherwise t)
+      taken-contained a b otherwise h = split (ltb 0 (found mayFlow t .receivable)) (λ e. rw e (withoutAction-contained _ refl refl)) (λ e. rw e h)
 
       execute-contained : (n : ℕ) (i : Instruction) → Sound n i → Contained s t (execute mayFlow joined i s t)
       unfolding execute
@@ -101,8 +108,8 @@ module _ (mayFlow : ℕ → ℕ → Bool) where
           split (mayFlow (t .label) b)
           (λ e. rw e record { rises = order .reflexive (t .label); allowed = (omega arith, e) })
           (λ e. rw e (withoutAction-contained _ refl refl))
-      execute-contained n (Take a b) h = taken-contained a b t (withoutAction-contained _ refl refl) (oldest mayFlow t)
-      execute-contained n (Poll a b c) h = taken-contained a b (withPc c t) (withoutAction-contained _ refl refl) (oldest mayFlow t)
+      execute-contained n (Take a b) h = taken-contained a b t (withoutAction-contained _ refl refl)
+      execute-contained n (Poll a b c) h = taken-contained a b (withPc c t) (withoutAction-contained _ refl refl)
       execute-contained n (Sandbox a b c) h =
           split (leb c (t .spare))
           (λ e. let fits : c ≤ t .spare = leb-true c (t .spare) e in

@@ -8,8 +8,8 @@ use native.Mathlib.Omega.{arith}
 use borrow.Author.Tests.{eqb-true, eq-eqb, ne-eqb, ltb-true}
 use lib.Dec.{eqb}
 use lib.ListN.{length, length-append}
-use Rattle.wire.specs.Lists.{Every, keep, dropFirst}
-use Rattle.wire.proofs.Lists.{split, every-append, every-keep, every-dropFirst, keep-append, keep-keep-le, keep-dropFirst-le}
+use Rattle.wire.specs.Lists.{Every, keep, without}
+use Rattle.wire.proofs.Lists.{split, every-append, every-keep, every-without, keep-append, keep-keep-le, keep-without-le}
 use Rattle.machine.specs.State.{Message}
 use Rattle.machine.specs.Turn.{ofLabel, hasRoom}
 use Rattle.machine.proofs.Rules.{MessageFacts, MailboxFacts}
@@ -22,11 +22,11 @@ module _ (ms : List Message) (ok : MailboxFacts ms) where
         four = λ l h. omega (arith, keep-keep-le (λ m. eqb (m .label) l) p ms, ok .four l h);
       }
 
-  pub mailbox-dropFirst : (p : Message → Bool) → MailboxFacts (dropFirst p ms)
-  mailbox-dropFirst p =
+  pub mailbox-without : (i : ℕ) → MailboxFacts (without i ms)
+  mailbox-without i =
       record {
-        each = every-dropFirst MessageFacts p ms (ok .each);
-        four = λ l h. omega (arith, keep-dropFirst-le (λ m. eqb (m .label) l) p ms, ok .four l h);
+        each = every-without MessageFacts i ms (ok .each);
+        four = λ l h. omega (arith, keep-without-le (λ m. eqb (m .label) l) i ms, ok .four l h);
       }
 
   pub mailbox-append : (m : Message) → MessageFacts m → hasRoom (m .label) ms ≡ true → MailboxFacts (ms ++ (m ∷ []))

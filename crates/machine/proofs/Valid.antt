@@ -3,15 +3,14 @@ use Prim.Native.Nat.{ℕ, zero, suc, _+_, _-_, _*_, _^_, _≤_, _<_}
 use mathlib.Core.Logic.{_≢_}
 use mathlib.Core.Path.{_≡_, refl}
 use mathlib.Core.Bool.{Bool, true, _&&_}
-use mathlib.Core.Option.{Option, none, some}
 use mathlib.Core.List.{List, [], _∷_, _++_, map}
 use native.Mathlib.Nat.{mod-lt}
 use native.Mathlib.Omega.{arith}
 use borrow.Author.Tests.{leb-true, le-leb}
-use lib.Dec.{leb, eqb}
+use lib.Dec.{leb, ltb, eqb}
 use lib.ListN.{getD, set, replicate, length-set, List·getD-map}
-use Rattle.wire.specs.Lists.{Bytes, keep, dropFirst}
-use Rattle.wire.proofs.Lists.{split, and-both, every-keep, every-head, getD-set-at}
+use Rattle.wire.specs.Lists.{Bytes}
+use Rattle.wire.proofs.Lists.{split, and-both, every-at, getD-set-at}
 use Rattle.label.proofs.Order.{Order}
 use Rattle.instruction.specs.declared.Instruction.{Instruction}
 use Rattle.instruction.specs.declared.Instruction.the-variants.{End, Set, Copy, Add, Subtract, Go, Zero, Raise, Send, Take, Poll, Sandbox, Identity}
@@ -21,14 +20,14 @@ use Rattle.instruction.proofs.Encode.{encode}
 use Rattle.instruction.specs.Program.{count, instructionAt, isLegal}
 use Rattle.instruction.proofs.Table.{Sound}
 use Rattle.instruction.proofs.Program.{at-below, at-sound, at-bytes, legal-at}
-use Rattle.machine.specs.State.{Message, Task, Slot, unused, used, State, slotAt, spareOf, withKind, withLabel, withSpare, withPc, withMailbox, register, withRegister, next}
-use Rattle.machine.specs.Effect.{Action, noAction, deliver, spawn, Outcome, withoutAction, childOf, childSlot, receivable, oldest, taken, execute, carriedOut, outcome}
+use Rattle.machine.specs.State.{Message, Task, Slot, unused, used, State, slotAt, spareOf, withKind, withLabel, withSpare, withPc, withMailbox, noMessage, message, register, withRegister, next}
+use Rattle.machine.specs.Effect.{Action, noAction, deliver, spawn, Outcome, withoutAction, receives, childOf, childSlot, found, taken, execute, carriedOut, outcome}
 use Rattle.machine.specs.Turn.{hasRoom, enqueue, perform, applied, successor, step, turnBy, turnsBy}
 use Rattle.machine.specs.Post.{hostMessage, post}
 use Rattle.machine.specs.View.{viewSlot, viewBy}
 use Rattle.machine.specs.Valid.{Valid}
 use Rattle.machine.proofs.Rules.{MessageFacts, MailboxFacts, TaskFacts, SlotFacts, slot-facts, slot-valid, spares-free, spares-test}
-use Rattle.machine.proofs.Mailbox.{mailbox-keep, mailbox-dropFirst, mailbox-append, mailbox-nil}
+use Rattle.machine.proofs.Mailbox.{mailbox-keep, mailbox-without, mailbox-append, mailbox-nil}
 use Rattle.machine.proofs.Effect.{outcome-contained}
 use Rattle.machine.proofs.Spare.{Spares, spares-deliver, spares-view, spares-applied}
 
@@ -111,22 +110,24 @@ module _ (mayFlow : ℕ → ℕ → Bool) (joined : ℕ → ℕ → ℕ) (order 
     mailbox = mailbox-nil;
   }
 
-  oldest-ok : (m : Message) → oldest mayFlow t ≡ some m → MessageFacts m
-  oldest-ok m e =
-      every-head MessageFacts (keep (receivable mayFlow t) (t .mailbox)) m (every-keep MessageFacts (receivable mayFlow t) (t .mailbox) (ok .mailbox .each)) e
+  message-ok : (i : ℕ) → MessageFacts (message t i)
+  message-ok i = every-at MessageFacts noMessage (record { label = omega arith; sender = omega arith; value = omega arith }) (t .mailbox) (ok .mailbox .each) i
 
   module _ (before : t .pc < n) where
     -- register a gets x, and the place goes up
     gets-ok : (a x : ℕ) → x < 2 ^ 32 → OutcomeFacts n s (withoutAction (next (withRegister a x t)))
     gets-ok a x h = withoutAction-ok _ (next-ok n s _ (register-ok n s t ok a x h) before)
 
-    taken-ok : (a b : ℕ) (otherwise : Task) → TaskFacts n s otherwise → (o : Option Message) → oldest mayFlow t ≡ o → OutcomeFacts n s (taken mayFlow a b otherwise t o)
-    taken-ok a b otherwise h none e = withoutAction-ok otherwise h
-    taken-ok a b otherwise h (some m) e =
-        let g = oldest-ok m e in
-        let ms = dropFirst (receivable mayFlow t) (t .mailbox) in
-        let left = mailbox-ok n s t ok ms (mailbox-dropFirst (t .mailbox) (ok .mailbox) (receivable mayFlow t)) in
-        withoutAction-ok _ (next-ok n s _ (register-ok n s _ (register-ok n s _ left a (m .value) (g .value)) b (m .sender) (omega (arith, g .sender))) before)
+    receives-ok : (a b i : ℕ) → TaskFacts n s (receives a b i t)
+    receives-ok a b i =
+        let m = message t i in
+        let g = message-ok i in
+        let left = mailbox-ok n s t ok _ (mailbox-without (t .mailbox) (ok .mailbox) i) in
+        next-ok n s _ (register-ok n s _ (register-ok n s _ left a (m .value) (g .value)) b (m .sender) (omega (arith, g .sender))) before
+
+    taken-ok : (a b : ℕ) (otherwise : Task) → TaskFacts n s otherwise → OutcomeFacts n s (taken mayFlow a b otherwise t)
+    taken-ok a b otherwise h =
+        split (ltb 0 (found mayFlow t .receivable)) (λ e. rw e (withoutAction-ok _ (receives-ok a b (found mayFlow t .oldest)))) (λ e. rw e (withoutAction-ok otherwise h))
 
     execute-ok : (i : Instruction) → Sound n i → Bytes (encode i) → OutcomeFacts n s (execute mayFlow joined i s t)
     unfolding execute
@@ -143,8 +144,8 @@ module _ (mayFlow : ℕ → ℕ → Bool) (joined : ℕ → ℕ → ℕ) (order 
         split (mayFlow (t .label) b)
         (λ e. rw e record { task = next-ok n s t ok before; action = record { label = h .1; sender = omega (arith, ok .spare); value = ok .words c } })
         (λ e. rw e (withoutAction-ok _ (kind-ok n s t ok 4 (omega arith) (omega arith))))
-    execute-ok (Take a b) h g = taken-ok a b t ok (oldest mayFlow t) refl
-    execute-ok (Poll a b c) h g = taken-ok a b (withPc c t) (pc-ok n s t ok c (omega arith)) (oldest mayFlow t) refl
+    execute-ok (Take a b) h g = taken-ok a b t ok
+    execute-ok (Poll a b c) h g = taken-ok a b (withPc c t) (pc-ok n s t ok c (omega arith))
     execute-ok (Sandbox a b c) h g =
         split (leb c (t .spare))
         (λ e. let fits : c ≤ t .spare = leb-true c (t .spare) e in

@@ -1,17 +1,17 @@
 -- The effect of each instruction: what its task becomes and what it does to the slots, told from that task alone.
 use Prim.Native.Nat.{ℕ, _+_, _-_, _*_, _^_, _%_}
 use mathlib.Core.Bool.{Bool, cond}
-use mathlib.Core.Option.{Option, none, some}
-use mathlib.Core.List.{List, [], _∷_, head?}
-use lib.Dec.{leb, eqb}
-use lib.ListN.{replicate}
-use Rattle.wire.specs.Lists.{keep, dropFirst}
+use mathlib.Core.List.{List, [], _∷_}
+use lib.Dec.{leb, ltb, eqb}
+use lib.ListN.{length, replicate}
+use Rattle.wire.specs.Lists.{keep, firstIndex}
 use Rattle.instruction.specs.declared.Instruction.{Instruction}
 use Rattle.instruction.specs.declared.Instruction.the-variants.{End, Set, Copy, Add, Subtract, Go, Zero, Raise, Send, Take, Poll, Sandbox, Identity}
 use Rattle.instruction.specs.declared.Decoded.{Decoded}
 use Rattle.instruction.specs.declared.Decoded.the-variants.{Legal, Illegal}
 use Rattle.instruction.specs.Program.{count, instructionAt}
-use Rattle.machine.specs.State.{Message, Task, withKind, withLabel, withSpare, withPc, withMailbox, register, withRegister, next}
+use Rattle.machine.specs.declared.Found.{Found}
+use Rattle.machine.specs.State.{Message, Task, withKind, withLabel, withSpare, withPc, message, withoutMessage, register, withRegister, next}
 
 -- what a task does to the slots: nothing, a message to the slot of that number, or a new task in it
 pub data Action : Type 0 where
@@ -34,6 +34,11 @@ stopped kind t = withoutAction (withKind kind t)
 abbrev pub gets : ℕ → ℕ → Task → Outcome
 gets a x t = withoutAction (next (withRegister a x t))
 
+-- message i goes, its value into register a, then its sender into register b, so where a and b are the same b's figure stays;
+-- and the place goes up
+abbrev pub receives : ℕ → ℕ → ℕ → Task → Task
+receives a b i t = next (withRegister b (message t i .sender) (withRegister a (message t i .value) (withoutMessage i t)))
+
 -- the new task of a sandbox of size n by a task in slot s with label l, at place b, and the slot where it stands
 abbrev pub childOf : ℕ → ℕ → ℕ → ℕ → Task
 childOf s l b n = record { kind = 1; label = l; spare = n - 1; pc = b; registers = s ∷ replicate 7 0; mailbox = [] }
@@ -44,19 +49,21 @@ childSlot s t n = s + (t .spare - n) + 1
 -- ---- over any order of labels: `mayFlow` says where a label flows, and `joined` is the join of two
 
 module _ (mayFlow : ℕ → ℕ → Bool) where
-  -- a message is receivable when its label flows to the task's label
-  abbrev pub receivable : Task → Message → Bool
-  receivable t m = mayFlow (m .label) (t .label)
+  -- a message is receivable at a label when its own flows to it
+  abbrev pub receivable : ℕ → Message → Bool
+  receivable l m = mayFlow (m .label) l
 
-  abbrev pub oldest : Task → Option Message
-  oldest t = head? (keep (receivable t) (t .mailbox))
+  -- the search of a mailbox at a label: which message that is receivable is the oldest, and how many are
+  abbrev pub find : ℕ → List Message → Found
+  find l ms = record { oldest = firstIndex (receivable l) ms; receivable = length (keep (receivable l) ms) }
 
-  -- take's effect on t, whose oldest receivable message is given; it becomes `otherwise` where there is none.
-  -- Register a is written first, so where a and b are the same b's figure stays
-  abbrev pub taken : ℕ → ℕ → Task → Task → Option Message → Outcome
-  taken a b otherwise t none = withoutAction otherwise
-  taken a b otherwise t (some m) =
-      withoutAction (next (withRegister b (m .sender) (withRegister a (m .value) (withMailbox (dropFirst (receivable t) (t .mailbox)) t))))
+  -- what a task finds in its own mailbox
+  abbrev pub found : Task → Found
+  found t = find (t .label) (t .mailbox)
+
+  -- take's effect on t: it becomes `otherwise` where nothing is receivable
+  abbrev pub taken : ℕ → ℕ → Task → Task → Outcome
+  taken a b otherwise t = withoutAction (cond (ltb 0 (found t .receivable)) (receives a b (found t .oldest) t) otherwise)
 
   module _ (joined : ℕ → ℕ → ℕ) where
     -- instruction i, carried out by the task t in slot s
@@ -73,8 +80,8 @@ module _ (mayFlow : ℕ → ℕ → Bool) where
         cond (mayFlow (t .label) b)
         (record { task = next t; action = deliver (register t a) (record { label = b; sender = s; value = register t c }) })
         (stopped 4 t)
-    execute (Take a b) s t = taken a b t t (oldest t)
-    execute (Poll a b c) s t = taken a b (withPc c t) t (oldest t)
+    execute (Take a b) s t = taken a b t t
+    execute (Poll a b c) s t = taken a b (withPc c t) t
     execute (Sandbox a b c) s t =
         cond (leb c (t .spare))
         (record { task = next (withRegister a (childSlot s t c) (withSpare (t .spare - c) t)); action = spawn (childSlot s t c) (childOf s (t .label) b c) })

@@ -3,7 +3,7 @@
 use Prim.Native.Nat.{ℕ, zero, suc, _+_, _≤_, _<_}
 use mathlib.Core.Bool.{not}
 use mathlib.Core.List.{List}
-use Rattle.wire.specs.Inner.{firstIndex}
+use Rattle.wire.specs.Lists.{firstIndex}
 use Rattle.machine.specs.State.{Slot, unused, used, slotAt, isUnused}
 
 -- the lowest used slot; how many slots there are where none is used

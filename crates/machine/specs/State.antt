@@ -4,6 +4,7 @@ use mathlib.Core.Bool.{Bool, true, false}
 use mathlib.Core.List.{List}
 use lib.Dec.{eqb}
 use lib.ListN.{getD, set}
+use Rattle.wire.specs.Lists.{without}
 
 pub record Message : Type 0 where
   pub label : ℕ
@@ -70,7 +71,19 @@ withRegisters rs t = record { kind = t .kind; label = t .label; spare = t .spare
 abbrev pub withMailbox : List Message → Task → Task
 withMailbox ms t = record { kind = t .kind; label = t .label; spare = t .spare; pc = t .pc; registers = t .registers; mailbox = ms }
 
--- ---- registers and place
+-- ---- messages, registers and place
+
+-- what stands for a message that is not there
+abbrev pub noMessage : Message
+noMessage = record { label = 0; sender = 0; value = 0 }
+
+-- message i of the mailbox
+abbrev pub message : Task → ℕ → Message
+message t i = getD (t .mailbox) i noMessage
+
+-- message i goes
+abbrev pub withoutMessage : ℕ → Task → Task
+withoutMessage i t = withMailbox (without i (t .mailbox)) t
 
 abbrev pub register : Task → ℕ → ℕ
 register t a = getD (t .registers) a 0

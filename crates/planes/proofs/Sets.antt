@@ -12,8 +12,7 @@ use lib.ListN.{length, getD, take}
 use lib.Pow.{pow-pos}
 use lib.Bits.{and-step, and-self}
 use lib.Count.{ones, ones-step, trailingZeros, under}
-use Rattle.wire.specs.Lists.{keep, tabulate}
-use Rattle.wire.specs.Inner.{firstIndex}
+use Rattle.wire.specs.Lists.{keep, tabulate, firstIndex}
 use Rattle.wire.proofs.Lists.{split}
 use Rattle.label.specs.Label.{bit}
 use Rattle.label.proofs.Bits.{bit-first, bit-half, bit-zero, two}

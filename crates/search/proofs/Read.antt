@@ -8,8 +8,7 @@ use native.Mathlib.Omega.{arith}
 use lib.Bits.{bitAnd, and-mask}
 use lib.Count.{trailingZeros}
 use lib.ListN.{length}
-use Rattle.wire.specs.Lists.{tabulate}
-use Rattle.wire.specs.Inner.{firstIndex}
+use Rattle.wire.specs.Lists.{tabulate, firstIndex}
 use Rattle.wire.proofs.Tabulate.{length-tabulate, take-tabulate}
 use Rattle.planes.specs.Planes.{Bits, setOf}
 use Rattle.planes.proofs.Sets.{set-of-bits, first-set, first-take}

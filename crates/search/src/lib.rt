@@ -3,15 +3,14 @@ ghost use Prim.Native.Nat.{_<_, _≤_};
 ghost use mathlib.Core.Path.{_≡_};
 ghost use mathlib.Core.Bool.{cond};
 ghost use lib.Dec.{eqb};
-ghost use lib.ListN.{length};
-ghost use Rattle.wire.specs.Lists.{keep};
-ghost use Rattle.wire.specs.Inner.{firstIndex};
 ghost use Rattle.label.specs.Label.{flows};
 ghost use Rattle.planes.specs.Planes.{Bits, setOf, labelFrom};
 ghost use Rattle.machine.specs.Limits.{highestLabel};
+ghost use Rattle.machine.specs.Effect.{find};
 ghost use Rattle.table.specs.Table.{mailboxRoom, window, planeIn, slotsIn};
 ghost use Rattle.table.specs.Change.{Used, taskAt};
 ghost use Rattle.search.specs.Look.{look};
+use machine::Found;
 
 // How many messages of a label a mailbox may hold.
 const LIMIT_PER_LABEL: usize = 4;
@@ -55,36 +54,28 @@ fn of_label(t: &table::Table, s: usize, label: u8) -> u64
     labelled(t, s, label) & planes::below(table::mailbox_length(t, s))
 }
 
-// The messages in slot s whose labels flow to `label`.
-fn receivable(t: &table::Table, s: usize, label: u8) -> u64
-    requires { ⌜ Used s (slotsIn (now t)) ⌝ }
-    ensures { λ r. ⌜ r ≡ setOf (λ m. flows (m .label) label) (taskAt (slotsIn (now (t .entry))) s .mailbox) ⌝ }
-{
-    flowing(t, s, label) & planes::below(table::mailbox_length(t, s))
-}
-
 // ---- what a set tells
 
-// The index of the oldest message in slot s whose label flows to `label`; how many messages there are where there is none. What
-// lies behind the last is not masked off, since the first is looked for.
-pub fn oldest(t: &table::Table, s: usize, label: u8) -> usize
+// The search of slot s at a label: which message that is receivable there is the oldest, and how many are. What lies behind the last
+// message is masked off for the count alone, since of the others the first is looked for. A caller that does not ask for the count
+// pays nothing for it: the compiler leaves it out.
+pub fn find(t: &table::Table, s: usize, label: u8) -> Found
     requires { ⌜ Used s (slotsIn (now t)) ⌝ }
-    ensures { λ r. ⌜ r ≡ firstIndex (λ m. flows (m .label) label) (taskAt (slotsIn (now (t .entry))) s .mailbox) ⌝ }
+    ensures { λ r. ⌜ (r ≡ find flows label (taskAt (slotsIn (now (t .entry))) s .mailbox)) × (r .receivable ≤ mailboxRoom) ⌝ }
 {
     let n = table::mailbox_length(t, s);
     if n == 0 {
-        return 0;
+        return Found {
+            oldest: 0,
+            receivable: 0,
+        };
     }
-    let i = u64::trailing_zeros(flowing(t, s, label)) as usize;
-    if i < n { i } else { n }
-}
-
-// How many messages in slot s have labels that flow to `label`.
-pub fn count_receivable(t: &table::Table, s: usize, label: u8) -> usize
-    requires { ⌜ Used s (slotsIn (now t)) ⌝ }
-    ensures { λ r. ⌜ (r ≡ length (keep (λ m. flows (m .label) label) (taskAt (slotsIn (now (t .entry))) s .mailbox))) × (r ≤ mailboxRoom) ⌝ }
-{
-    u64::count_ones(receivable(t, s, label)) as usize
+    let passed = flowing(t, s, label);
+    let first = u64::trailing_zeros(passed) as usize;
+    Found {
+        oldest: if first < n { first } else { n },
+        receivable: u64::count_ones(passed & planes::below(n)) as usize,
+    }
 }
 
 // What the count of a label's messages tells: whether there is room for one more, and how many messages were looked at.

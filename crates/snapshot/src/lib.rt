@@ -34,7 +34,7 @@ pub fn mail_shown(table: &table::Table, slot: usize, observer: u8) -> usize
     requires { ⌜ Used slot (slotsIn (now table)) ⌝ }
     ensures { λ r. ⌜ (r ≡ length (viewTask (λ l. flows l observer) (taskAt (slotsIn (now (table .entry))) slot) .mailbox)) × (r ≤ 64) ⌝ }
 {
-    search::count_receivable(table, slot, observer)
+    search::find(table, slot, observer).receivable
 }
 
 // ---- sizes in bytes, known before the first byte is written

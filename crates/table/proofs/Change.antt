@@ -7,9 +7,9 @@ use lib.ListN.{length, getD, set}
 use lib.Seq.{set-getD}
 use Rattle.wire.proofs.Lists.{getD-set-at}
 use Rattle.wire.proofs.Tabulate.{length-tabulate, getD-tabulate}
-use Rattle.machine.specs.State.{Message, Task, Slot, unused, used, slotAt}
+use Rattle.machine.specs.State.{Message, Task, Slot, unused, used, slotAt, noMessage}
 use Rattle.table.specs.Table.{window, messageIn, taskIn, held, slotsIn}
-use Rattle.table.specs.Change.{noMessage, taskOr, taskAt, Used, changeSlot, change, opened}
+use Rattle.table.specs.Change.{taskOr, taskAt, Used, changeSlot, change, opened}
 
 pub length-slots : (t : List ℕ) → length (slotsIn t) ≡ 16
 unfolding slotsIn

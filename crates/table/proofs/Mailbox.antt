@@ -6,15 +6,14 @@ use mathlib.Core.List.{List, [], _∷_, _++_}
 use native.Mathlib.Omega.{arith}
 use borrow.Author.Tests.{lt-ltb, le-ltb}
 use lib.ListN.{length, getD, set}
-use Rattle.wire.specs.Lists.{tabulate}
-use Rattle.wire.specs.Inner.{without}
+use Rattle.wire.specs.Lists.{tabulate, without}
 use Rattle.wire.proofs.Tabulate.{getD-tabulate, tabulate-same, tabulate-set, tabulate-append, tabulate-without}
 use Rattle.label.specs.Label.{bit}
 use Rattle.planes.specs.Planes.{labelFrom}
 use Rattle.planes.proofs.Labels.{label-same}
-use Rattle.machine.specs.State.{Message, withMailbox}
+use Rattle.machine.specs.State.{Message, withMailbox, noMessage, withoutMessage}
 use Rattle.table.specs.Table.{window, planeIn, messageIn, taskIn, slotsIn}
-use Rattle.table.specs.Change.{noMessage, taskAt, Used, change, withMessage, withoutMessage, withMail, opened}
+use Rattle.table.specs.Change.{taskAt, Used, change, withMessage, withMail, opened}
 use Rattle.table.specs.Words.{SlotChanged, SlotStored, Planed, Mailed, With, Without}
 use Rattle.table.proofs.Window.{window-length}
 use Rattle.table.proofs.Message.{message-same, word-sender, word-value}

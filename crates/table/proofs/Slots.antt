@@ -11,9 +11,9 @@ use lib.ListN.{length, getD, drop, set, List·getD-eq-default}
 use Rattle.wire.specs.Lists.{tabulate}
 use Rattle.wire.proofs.Lists.{split}
 use Rattle.wire.proofs.Tabulate.{length-tabulate, getD-tabulate, tabulate-set}
-use Rattle.machine.specs.State.{Task, Slot, unused, used, slotAt, withKind}
+use Rattle.machine.specs.State.{Task, Slot, unused, used, slotAt, withKind, noMessage}
 use Rattle.table.specs.Table.{lowFour, window, messageIn, taskIn, held, slotsIn}
-use Rattle.table.specs.Change.{noMessage, taskOr, taskAt, Used, messageAt, changeSlot, change, slotWithKind}
+use Rattle.table.specs.Change.{taskOr, taskAt, Used, messageAt, changeSlot, change, slotWithKind}
 use Rattle.table.specs.Words.{SlotStored}
 use Rattle.table.proofs.Change.{length-slots, mail-used}
 use Rattle.table.proofs.Window.{window-length}

@@ -2,16 +2,12 @@
 use Prim.Native.Nat.{ℕ}
 use mathlib.Core.Path.{_≡_}
 use mathlib.Core.List.{List, [], _∷_, _++_}
-use lib.ListN.{getD, set, replicate}
+use lib.ListN.{set, replicate}
 use Rattle.wire.specs.Lists.{tabulate}
-use Rattle.wire.specs.Inner.{without}
-use Rattle.machine.specs.State.{Message, Task, Slot, unused, used, slotAt, withKind, withMailbox}
+use Rattle.machine.specs.State.{Message, Task, Slot, unused, used, slotAt, withKind, withMailbox, message}
 use Rattle.table.specs.Table.{messageIn, held}
 
 -- ---- reading
-
-abbrev pub noMessage : Message
-noMessage = record { label = 0; sender = 0; value = 0 }
 
 abbrev pub noTask : Task
 noTask = record { kind = 0; label = 0; spare = 0; pc = 0; registers = []; mailbox = [] }
@@ -29,7 +25,7 @@ abbrev pub Used : ℕ → List Slot → Type 0
 Used s ss = slotAt ss s ≡ used (taskAt ss s)
 
 abbrev pub messageAt : List Slot → ℕ → ℕ → Message
-messageAt ss s i = getD (taskAt ss s .mailbox) i noMessage
+messageAt ss s i = message (taskAt ss s) i
 
 -- ---- changing: what is not there stays so
 
@@ -50,14 +46,10 @@ slotWithKind k (used t) = held (withKind k t)
 abbrev pub withMessage : Message → Task → Task
 withMessage m t = withMailbox (t .mailbox ++ (m ∷ [])) t
 
--- message i goes
-abbrev pub withoutMessage : ℕ → Task → Task
-withoutMessage i t = withMailbox (without i (t .mailbox)) t
-
 -- message i gets a sender and a value, its mail; its label stays
 abbrev pub withMail : ℕ → ℕ → ℕ → Task → Task
 withMail i sender value t =
-    withMailbox (set (t .mailbox) i (record { label = getD (t .mailbox) i noMessage .label; sender = sender; value = value })) t
+    withMailbox (set (t .mailbox) i (record { label = message t i .label; sender = sender; value = value })) t
 
 -- n messages with these labels; senders and values are those that a slot's words w have in the ring already
 unfoldable pub opened : ℕ → (ℕ → ℕ) → List ℕ → List Message

@@ -7,10 +7,10 @@ ghost use lib.ListN.{length, getD, set};
 ghost use Rattle.label.specs.Label.{bit};
 ghost use Rattle.planes.specs.Planes.{labelFrom, planeOf};
 ghost use Rattle.machine.specs.Limits.{highestLabel};
-ghost use Rattle.machine.specs.State.{unused, slotAt, register, withLabel, withSpare, withPc, withRegister, withMailbox};
+ghost use Rattle.machine.specs.State.{unused, slotAt, register, withLabel, withSpare, withPc, withRegister, withMailbox, withoutMessage};
 ghost use Rattle.table.specs.Table.{startWord, ringWord, slotWords, mailboxRoom, window, planeIn, ringIn, slotsIn, held};
 ghost use Rattle.table.specs.Words.{SlotChanged, SlotStored, cleared, Planed, WithBit, WithoutBit, Moved, Mailed, down, up, With, Closed, Without};
-ghost use Rattle.table.specs.Change.{Used, taskAt, messageAt, change, slotWithKind, withMessage, withoutMessage, withMail, opened, newTask};
+ghost use Rattle.table.specs.Change.{Used, taskAt, messageAt, change, slotWithKind, withMessage, withMail, opened, newTask};
 
 const SLOTS: usize = 16;
 

@@ -12,8 +12,7 @@ use borrow.Author.Tests.{lt-ltb, ltb-true, leb-true, le-leb, eqb-true, eq-eqb, n
 use lib.Dec.{leb, ltb, eqb}
 use lib.ListN.{length, getD, drop, length-append, drop-of-length-le, List·getD-append}
 use lib.Seq.{length-take-le, split-at, take-append-seam, drop-cons}
-use Rattle.wire.specs.Lists.{Every, all}
-use Rattle.wire.specs.Inner.{firstIndex}
+use Rattle.wire.specs.Lists.{Every, all, firstIndex}
 use Rattle.wire.proofs.Lists.{length-nil, split, and-both, all-append, first-le, first-passes, first-behind}
 use Rattle.text.specs.Text.{decimal}
 use Rattle.text.specs.Inner.{isDigit, isDecimal, valueFrom, ahead, numberLength, numberValue}

@@ -4,8 +4,7 @@ use mathlib.Core.Bool.{Bool, cond, _&&_, _||_}
 use mathlib.Core.List.{List, [], _∷_}
 use lib.Dec.{leb, ltb, eqb}
 use lib.ListN.{length, getD, take}
-use Rattle.wire.specs.Lists.{all}
-use Rattle.wire.specs.Inner.{firstIndex}
+use Rattle.wire.specs.Lists.{all, firstIndex}
 
 -- 0 to 9 in ASCII
 abbrev pub isDigit : ℕ → Bool

@@ -2,16 +2,14 @@
 use Prim.Native.Nat.{ℕ, zero, suc, _+_, _≤_, _<_}
 use mathlib.Core.Path.{_≡_, refl, sym, ap}
 use mathlib.Core.Bool.{Bool, true, false, _&&_}
-use mathlib.Core.List.{List, [], _∷_, _++_, map, head?}
-use mathlib.Core.Option.{none, some}
+use mathlib.Core.List.{List, [], _∷_, _++_, map}
 use native.Mathlib.Decide.{decLe}
 use native.Mathlib.Nat.{not-suc-le-zero}
 use native.Mathlib.Numerals.{add-one}
 use native.Mathlib.Omega.{arith}
 use lib.ListN.{length, getD, set, take, drop, drop-of-length-le}
 use lib.Seq.{drop-cons}
-use Rattle.wire.specs.Lists.{each, Every, all, keep, dropFirst, Bytes}
-use Rattle.wire.specs.Inner.{without, firstIndex}
+use Rattle.wire.specs.Lists.{each, Every, all, keep, firstIndex, without, Bytes}
 
 -- ---- cases
 
@@ -133,13 +131,8 @@ module _ {A : Type 0} (P : A → Type 0) where
   every-keep p [] h = h
   every-keep p (x ∷ xs) h = let ih = every-keep p xs (h .1) in split (p x) (λ e. rw e (h .0, ih)) (λ e. rw e ih)
 
-  pub every-dropFirst : (p : A → Bool) (xs : List A) → Every P xs → Every P (dropFirst p xs)
-  every-dropFirst p [] h = h
-  every-dropFirst p (x ∷ xs) h = let ih = every-dropFirst p xs (h .1) in split (p x) (λ e. rw e (h .1)) (λ e. rw e (h .0, ih))
-
-  pub every-head : (xs : List A) (x : A) → Every P xs → head? xs ≡ some x → P x
-  every-head [] x h e = let z : _≡_ {A = ℕ} 0 1 = cc in absurd (omega arith)
-  every-head (y ∷ ys) x h e = let z : y ≡ x = cc in rw z at (h .0)
+  pub every-without : (i : ℕ) (xs : List A) → Every P xs → Every P (without i xs)
+  every-without i xs h = every-append (take i xs) (drop (suc i) xs) (every-take i xs h) (every-drop (suc i) xs h)
 
   -- a test that decides P decides it of every element
   pub every-all : (p : A → Bool) → ((x : A) → P x → p x ≡ true) → (xs : List A) → Every P xs → all p xs ≡ true
@@ -215,14 +208,6 @@ module _ {A : Type 0} where
         (λ e. rw e (split (p x) (λ f. rw f (omega arith)) (λ f. rw f ih)))
         (λ e. rw e (split (p x) (λ f. rw f (omega arith)) (λ f. rw f ih)))
 
-    pub keep-dropFirst-le : (xs : List A) → length (keep p (dropFirst q xs)) ≤ length (keep p xs)
-    keep-dropFirst-le [] = omega arith
-    keep-dropFirst-le (x ∷ xs) =
-        let ih = keep-dropFirst-le xs in
-        split (q x)
-        (λ e. rw e (split (p x) (λ f. rw f (omega arith)) (λ f. rw f (omega arith))))
-        (λ e. rw e (split (p x) (λ f. rw f (omega arith)) (λ f. rw f ih)))
-
     module _ (stronger : (x : A) → p x ≡ true → q x ≡ true) where
       -- a weaker test first changes nothing
       pub keep-keep : (xs : List A) → keep p (keep q xs) ≡ keep p xs
@@ -231,30 +216,42 @@ module _ {A : Type 0} where
           let h = keep-keep xs in
           split (p x) (λ e. rw (stronger x e, e, h)) (λ e. split (q x) (λ f. rw (f, e, h)) (λ f. rw (f, e, h)))
 
-      pub dropFirst-keep : (xs : List A) → dropFirst p (keep q xs) ≡ keep q (dropFirst p xs)
-      dropFirst-keep [] = refl
-      dropFirst-keep (x ∷ xs) =
-          let h = dropFirst-keep xs in
+      -- the first that passes is the same element, and the same are left without it
+      pub first-keep : (d : A) (xs : List A) → getD (keep q xs) (firstIndex p (keep q xs)) d ≡ getD xs (firstIndex p xs) d
+      first-keep d [] = refl
+      first-keep d (x ∷ xs) =
+          let h = first-keep d xs in
+          split (p x) (λ e. rw (stronger x e, e)) (λ e. split (q x) (λ f. rw (f, e, h)) (λ f. rw (f, e, h)))
+
+      pub without-keep : (xs : List A) → without (firstIndex p (keep q xs)) (keep q xs) ≡ keep q (without (firstIndex p xs) xs)
+      without-keep [] = refl
+      without-keep (x ∷ xs) =
+          let h = without-keep xs in
           split (p x) (λ e. rw (stronger x e, e)) (λ e. split (q x) (λ f. rw (f, e, f, h)) (λ f. rw (f, e, f, h)))
 
 -- ---- the first element that passes, by its index, and how many do
 
 module _ {A : Type 0} (p : A → Bool) where
-  pub first-none : (xs : List A) → length xs ≤ firstIndex p xs → head? (keep p xs) ≡ none
+  pub first-none : (xs : List A) → length xs ≤ firstIndex p xs → length (keep p xs) ≡ 0
   first-none [] = λ h. refl
   first-none (x ∷ xs) =
       let ih = first-none xs in
       split (p x) (λ e. rw e (λ h. absurd (omega arith))) (λ e. rw e (λ h. ih (omega arith)))
 
-  pub first-some : (xs : List A) (d : A) → firstIndex p xs < length xs → head? (keep p xs) ≡ some (getD xs (firstIndex p xs) d)
-  first-some [] d = λ h. absurd (not-suc-le-zero h)
-  first-some (x ∷ xs) d =
-      let ih = first-some xs d in
-      split (p x) (λ e. rw e (λ h. refl)) (λ e. rw e (λ h. ih (omega arith)))
+  pub first-some : (xs : List A) → firstIndex p xs < length xs → 0 < length (keep p xs)
+  first-some [] = λ h. absurd (not-suc-le-zero h)
+  first-some (x ∷ xs) =
+      let ih = first-some xs in
+      split (p x) (λ e. rw e (λ h. omega arith)) (λ e. rw e (λ h. ih (omega arith)))
 
-  pub first-without : (xs : List A) → without (firstIndex p xs) xs ≡ dropFirst p xs
-  first-without [] = refl
-  first-without (x ∷ xs) = let ih = first-without xs in split (p x) (λ e. rw e) (λ e. rw (e, ih))
+  -- without an element no more pass
+  pub keep-without-le : (i : ℕ) (xs : List A) → length (keep p (without i xs)) ≤ length (keep p xs)
+  keep-without-le zero [] = omega arith
+  keep-without-le (suc i) [] = omega arith
+  keep-without-le zero (x ∷ xs) = split (p x) (λ e. rw e (omega arith)) (λ e. rw e (omega arith))
+  keep-without-le (suc i) (x ∷ xs) =
+      let ih = keep-without-le i xs in
+      split (p x) (λ e. rw e (omega arith)) (λ e. rw e ih)
 
   pub first-le : (xs : List A) → firstIndex p xs ≤ length xs
   first-le [] = omega arith

@@ -1,7 +1,8 @@
--- Tests over numbers and lists: each number below a bound, each element, the elements that pass.
+-- Tests over numbers and lists: each number below a bound, each element, the elements that pass and the first of them.
 use Prim.Native.Nat.{ℕ, zero, suc, _<_}
 use mathlib.Core.Bool.{Bool, true, cond, _&&_}
-use mathlib.Core.List.{List, [], _∷_}
+use mathlib.Core.List.{List, [], _∷_, _++_}
+use lib.ListN.{take, drop}
 
 -- f passes at each number below n
 unfoldable pub each : ℕ → (ℕ → Bool) → Bool
@@ -29,10 +30,14 @@ module _ {A : Type 0} where
   keep p [] = []
   keep p (x ∷ xs) = cond (p x) (x ∷ keep p xs) (keep p xs)
 
-  -- all but the first element at which p passes
-  abbrev pub dropFirst : (A → Bool) → List A → List A
-  dropFirst p [] = []
-  dropFirst p (x ∷ xs) = cond (p x) xs (x ∷ dropFirst p xs)
+  -- the index of the first element at which p passes, the length where there is none
+  abbrev pub firstIndex : (A → Bool) → List A → ℕ
+  firstIndex p [] = 0
+  firstIndex p (x ∷ xs) = cond (p x) 0 (suc (firstIndex p xs))
+
+  -- all but the element at index i
+  abbrev pub without : ℕ → List A → List A
+  without i xs = take i xs ++ drop (suc i) xs
 
 -- every element is a byte
 abbrev pub Bytes : List ℕ → Type 0

@@ -7,7 +7,8 @@ ghost use lib.Dec.{eqb};
 ghost use denote.Ref.{ptr};
 ghost use lib.ListN.{length, getD, take, drop};
 ghost use Rattle.wire.specs.Numbers.{decodeNumber, encodeNumber};
-ghost use Rattle.wire.specs.Inner.{written, same, firstIndex};
+ghost use Rattle.wire.specs.Lists.{firstIndex};
+ghost use Rattle.wire.specs.Inner.{written, same};
 ghost use Rattle.wire.specs.Slices.{offsetBy};
 
 // Byte i of s.

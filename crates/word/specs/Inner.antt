@@ -2,8 +2,8 @@
 use Prim.Native.Nat.{ℕ}
 use mathlib.Core.List.{List}
 use lib.ListN.{length}
-use Rattle.wire.specs.Lists.{tabulate}
-use Rattle.wire.specs.Inner.{same, firstIndex}
+use Rattle.wire.specs.Lists.{tabulate, firstIndex}
+use Rattle.wire.specs.Inner.{same}
 use Rattle.instruction.specs.Table.{table}
 use Rattle.word.specs.Word.{wordOf}
 

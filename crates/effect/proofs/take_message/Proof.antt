@@ -1,11 +1,12 @@
 -- `effect::take_message` meets its contract: the message goes, then the registers and the place change.
 use mathlib.Core.Path.{refl}
 use native.Mathlib.Omega.{arith}
-use Rattle.machine.specs.State.{withRegister}
-use Rattle.table.specs.Change.{withoutMessage}
+use denote.Ref.{now}
+use Rattle.machine.specs.State.{withRegister, withoutMessage}
+use Rattle.table.specs.Table.{slotsIn}
 use Rattle.table.proofs.Change.{change-change}
 use Rattle.table.proofs.Slots.{used-slot}
-use Rattle.effect.proofs.Effects.{goes-on}
+use Rattle.effect.proofs.Effects.{message-out, goes-on}
 use Rattle.effect.proofs.take_message.Statement.{statement}
 use Rattle.effect.proofs.take_message.Tie as tie
 
@@ -18,17 +19,11 @@ gets-requires c κs =
 
 returns : tie.Need-returns
 returns c =
+    let a = c .before .before .before .before .before .before .before .before .before .before .args in
     let x = c .before .before .before .before .before .before .before .before .message-value in
     let y = c .before .before .before .before .before .before .message-sender in
-    rw (
-      ← x .ensures,
-      ← y .ensures,
-      c .gets .ensures,
-      c .before .before .set-register .ensures,
-      c .before .before .before .before .remove .ensures,
-      change-change,
-      change-change,
-    )
+    rw (c .gets .ensures, c .before .before .set-register .ensures, c .before .before .before .before .remove .ensures, change-change, change-change)
+    (message-out (a .slot) (a .a) (a .b) (a .i) (slotsIn (now (a .table))) (x .ensures) (y .ensures))
 
 pub take-message-spec : {M : Type 1} → statement M
 take-message-spec =

@@ -4,7 +4,8 @@ use native.Mathlib.Omega.{arith}
 use denote.Ref.{now}
 use Rattle.wire.proofs.Output.{ItemsWritten, items-none, item-part, items-more, items-all}
 use Rattle.table.specs.Table.{slotsIn}
-use Rattle.table.specs.Change.{noMessage, taskAt}
+use Rattle.machine.specs.State.{noMessage}
+use Rattle.table.specs.Change.{taskAt}
 use Rattle.snapshot.specs.Writing.{shownMessage}
 use Rattle.snapshot.proofs.write_mailbox.Statement.{statement}
 use Rattle.snapshot.proofs.write_mailbox.Tie as tie

@@ -5,7 +5,7 @@ use borrow.Author.Tests.{eq-eqb, ne-eqb}
 use denote.Ref.{now}
 use lib.Dec.{eqb}
 use lib.ListN.{length}
-use Rattle.wire.specs.Inner.{firstIndex}
+use Rattle.wire.specs.Lists.{firstIndex}
 use Rattle.wire.proofs.Lists.{first-here, first-next, first-past}
 use Rattle.wire.proofs.index_of.Statement.{statement}
 use Rattle.wire.proofs.index_of.Tie as tie

@@ -6,8 +6,8 @@ use mathlib.Core.List.{List}
 use native.Mathlib.Omega.{arith}
 use denote.Ref.{now}
 use lib.ListN.{length, getD}
-use Rattle.wire.specs.Lists.{tabulate}
-use Rattle.wire.specs.Inner.{same, firstIndex}
+use Rattle.wire.specs.Lists.{tabulate, firstIndex}
+use Rattle.wire.specs.Inner.{same}
 use Rattle.wire.proofs.Lists.{first-here, first-next, first-past}
 use Rattle.wire.proofs.Tabulate.{getD-tabulate, length-tabulate}
 use Rattle.instruction.specs.Table.{table}
