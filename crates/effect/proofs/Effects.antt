@@ -12,7 +12,7 @@ use lib.Seq.{set-getD}
 use Rattle.label.specs.Label.{flows, join}
 use Rattle.wire.proofs.Lists.{and-both, first-none, first-some}
 use Rattle.instruction.specs.declared.Instruction.{Instruction}
-use Rattle.instruction.specs.declared.Instruction.the-variants.{End, Set, Copy, Add, Subtract, Go, Zero, Raise, Send, Take, Poll, Sandbox, Identity}
+use Rattle.instruction.specs.declared.Instruction.the-variants.{End, Set, Copy, Add, Subtract, Go, Zero, Raise, Send, Take, Poll, Sandbox, Identity, Count}
 use Rattle.instruction.specs.Program.{count}
 use Rattle.instruction.proofs.Table.{Sound, decode-sound}
 use Rattle.machine.specs.Limits.{highestLabel}
@@ -156,6 +156,11 @@ module _ {s : ℕ} {ss : List Slot} (ready : Ready s ss) where
   pub poll-none : (a b c : ℕ) → ltb 0 (found flows (taskAt ss s) .receivable) ≡ false → change s (withPc c) (executed (Take a b) s ss) ≡ executed (Poll a b c) s ss
   unfolding executed execute
   poll-none a b c e = rw e (change-set s (withPc c) ss (used (taskAt ss s)))
+
+  pub count-done : (a : ℕ) {own : ℕ} {f : Found} → own ≡ taskAt ss s .label → f ≡ find flows own (taskAt ss s .mailbox)
+      → change s (λ t. next (withRegister a (f .receivable) t)) ss ≡ executed (Count a) s ss
+  unfolding execute
+  count-done a {f = f} label told = alone (Count a) (λ t. next (withRegister a (f .receivable) t)) (rw (told, label))
 
   -- ---- new tasks
 

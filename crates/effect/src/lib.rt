@@ -4,7 +4,7 @@ ghost use mathlib.Core.Path.{_≡_};
 ghost use lib.Dec.{ltb};
 ghost use lib.ListN.{length, set};
 ghost use Rattle.label.specs.Label.{flows};
-ghost use Rattle.instruction.specs.declared.Instruction.the-variants.{Copy, Add, Subtract, Zero, Raise, Send, Take, Poll, Sandbox, Identity};
+ghost use Rattle.instruction.specs.declared.Instruction.the-variants.{Copy, Add, Subtract, Zero, Raise, Send, Take, Poll, Sandbox, Identity, Count};
 ghost use Rattle.machine.specs.Limits.{highestLabel};
 ghost use Rattle.machine.specs.State.{used, slotAt, withRegister, next};
 ghost use Rattle.machine.specs.Effect.{receives, childOf, found, deliver};
@@ -185,6 +185,16 @@ fn poll(table: &mut table::Table, slot: u8, a: u8, b: u8, c: u8)
     table::set_pc(table, slot as usize, c as u32);
 }
 
+// Register a gets how many messages are receivable.
+fn count(table: &mut table::Table, slot: u8, a: u8)
+    requires { ⌜ Ready slot (slotsIn (now table)) × WasDecoded (Count a) ⌝ }
+    ensures { λ _. ⌜ slotsIn (now (table .exit)) ≡ executed (Count a) slot (slotsIn (now (table .entry))) ⌝ }
+{
+    let own = table::label(table, slot as usize);
+    let n = search::find(table, slot as usize, own).receivable;
+    gets(table, slot, a, n as u32);
+}
+
 // ---- new tasks
 
 // The new task of a sandbox in slot `child`, with the parent's label, and the parent's slot in register 0.
@@ -237,5 +247,6 @@ pub fn execute(table: &mut table::Table, slot: u8, i: Instruction)
         Instruction::Poll(a, b, c) => poll(table, slot, a, b, c),
         Instruction::Sandbox(a, b, c) => sandbox(table, slot, a, b, c),
         Instruction::Identity(a, b) => identity(table, slot, a, b),
+        Instruction::Count(a) => count(table, slot, a),
     }
 }

@@ -2,7 +2,7 @@
 use Prim.Native.Nat.{ℕ}
 use mathlib.Core.List.{List, [], _∷_}
 use Rattle.instruction.specs.declared.Instruction.{Instruction}
-use Rattle.instruction.specs.declared.Instruction.the-variants.{End, Set, Copy, Add, Subtract, Go, Zero, Raise, Send, Take, Poll, Sandbox, Identity}
+use Rattle.instruction.specs.declared.Instruction.the-variants.{End, Set, Copy, Add, Subtract, Go, Zero, Raise, Send, Take, Poll, Sandbox, Identity, Count}
 
 abbrev pub encode : Instruction → List ℕ
 encode End = 0x00 ∷ 0 ∷ 0 ∷ 0 ∷ []
@@ -18,3 +18,4 @@ encode (Take a b) = 0x09 ∷ a ∷ b ∷ 0 ∷ []
 encode (Poll a b c) = 0x0A ∷ a ∷ b ∷ c ∷ []
 encode (Sandbox a b c) = 0x0B ∷ a ∷ b ∷ c ∷ []
 encode (Identity a b) = 0x0C ∷ a ∷ b ∷ 0 ∷ []
+encode (Count a) = 0x0D ∷ a ∷ 0 ∷ 0 ∷ []

@@ -10,7 +10,7 @@ use lib.ListN.{getD}
 use Rattle.wire.specs.Lists.{Every}
 use Rattle.wire.proofs.Lists.{split, and-both}
 use Rattle.instruction.specs.declared.Instruction.{Instruction}
-use Rattle.instruction.specs.declared.Instruction.the-variants.{End, Set, Copy, Add, Subtract, Go, Zero, Raise, Send, Take, Poll, Sandbox, Identity}
+use Rattle.instruction.specs.declared.Instruction.the-variants.{End, Set, Copy, Add, Subtract, Go, Zero, Raise, Send, Take, Poll, Sandbox, Identity, Count}
 use Rattle.instruction.specs.declared.Decoded.{Decoded}
 use Rattle.instruction.specs.declared.Decoded.the-variants.{Legal, Illegal}
 use Rattle.instruction.specs.Table.{Operand, R, T, L, S, any, blank, admits, Row, table, legalIf, byCode, decodeBy, decode}
@@ -113,6 +113,7 @@ operandsOf (Take a b) = operands R R blank a b 0
 operandsOf (Poll a b c) = operands R R T a b c
 operandsOf (Sandbox a b c) = operands R T S a b c
 operandsOf (Identity a b) = operands R R blank a b 0
+operandsOf (Count a) = operands R blank blank a 0 0
 
 -- the table admits them
 abbrev pub allAdmitted : ℕ → Operands → Bool
@@ -138,6 +139,7 @@ decode-encode n (Take a b) = refl
 decode-encode n (Poll a b c) = refl
 decode-encode n (Sandbox a b c) = refl
 decode-encode n (Identity a b) = refl
+decode-encode n (Count a) = refl
 
 -- ---- what the table says of the operands
 

@@ -5,7 +5,7 @@ use mathlib.Core.Bool.{Bool, true, false, cond, _&&_}
 use mathlib.Core.List.{List, [], _∷_}
 use lib.Dec.{leb, ltb, eqb}
 use Rattle.instruction.specs.declared.Instruction.{Instruction}
-use Rattle.instruction.specs.declared.Instruction.the-variants.{End, Set, Copy, Add, Subtract, Go, Zero, Raise, Send, Take, Poll, Sandbox, Identity}
+use Rattle.instruction.specs.declared.Instruction.the-variants.{End, Set, Copy, Add, Subtract, Go, Zero, Raise, Send, Take, Poll, Sandbox, Identity, Count}
 use Rattle.instruction.specs.declared.Decoded.{Decoded}
 use Rattle.instruction.specs.declared.Decoded.the-variants.{Legal, Illegal}
 
@@ -50,6 +50,7 @@ table =
     ∷ row 0x0A "poll" R R T (λ a b c. Poll a b c)
     ∷ row 0x0B "sandbox" R T S (λ a b c. Sandbox a b c)
     ∷ row 0x0C "self" R R blank (λ a b c. Identity a b)
+    ∷ row 0x0D "count" R blank blank (λ a b c. Count a)
     ∷ []
 
 abbrev pub legalIf : Bool → Instruction → Decoded

@@ -22,6 +22,7 @@ pub enum Instruction {
     Poll(u8, u8, u8),
     Sandbox(u8, u8, u8),
     Identity(u8, u8),
+    Count(u8),
 }
 
 // What four bytes decode to: an instruction of the table, or none.
@@ -68,6 +69,7 @@ pub fn decode(n: usize, code: u8, a: u8, b: u8, c: u8) -> Decoded
             Instruction::Sandbox(a, b, c),
         ),
         0x0C => legal_if((a < 8) & (b < 8) & (c == 0), Instruction::Identity(a, b)),
+        0x0D => legal_if((a < 8) & (b == 0) & (c == 0), Instruction::Count(a)),
         _ => Decoded::Illegal,
     }
 }
@@ -135,6 +137,7 @@ fn form(code: u8, a: u8, b: u8, c: u8) -> Instruction
         0x0A => Instruction::Poll(a, b, c),
         0x0B => Instruction::Sandbox(a, b, c),
         0x0C => Instruction::Identity(a, b),
+        0x0D => Instruction::Count(a),
         _ => Instruction::End,
     }
 }

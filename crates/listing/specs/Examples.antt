@@ -33,4 +33,4 @@ pub record Examples : Type 0 where
       × (linesNumber (line 0x05 0 0 0 ∷ []) ≡ 0)
       × (linesNumber (line 0x05 1 0 0 ∷ []) ≡ 6)
   -- the lister: no instruction, a part of one, a code that is in no row, a target that is not below 1
-  pub refused : (partNumber [] ≡ 5) × (partNumber (0 ∷ 0 ∷ 0 ∷ []) ≡ 5) × (partNumber (0x0D ∷ 0 ∷ 0 ∷ 0 ∷ []) ≡ 6) × (partNumber (0x05 ∷ 1 ∷ 0 ∷ 0 ∷ []) ≡ 6)
+  pub refused : (partNumber [] ≡ 5) × (partNumber (0 ∷ 0 ∷ 0 ∷ []) ≡ 5) × (partNumber (0x0E ∷ 0 ∷ 0 ∷ 0 ∷ []) ≡ 6) × (partNumber (0x05 ∷ 1 ∷ 0 ∷ 0 ∷ []) ≡ 6)

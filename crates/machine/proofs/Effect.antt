@@ -10,7 +10,7 @@ use lib.Dec.{leb, ltb, eqb}
 use Rattle.wire.proofs.Lists.{split, keep-keep, first-keep, without-keep}
 use Rattle.label.proofs.Order.{Order, DownClosed}
 use Rattle.instruction.specs.declared.Instruction.{Instruction}
-use Rattle.instruction.specs.declared.Instruction.the-variants.{End, Set, Copy, Add, Subtract, Go, Zero, Raise, Send, Take, Poll, Sandbox, Identity}
+use Rattle.instruction.specs.declared.Instruction.the-variants.{End, Set, Copy, Add, Subtract, Go, Zero, Raise, Send, Take, Poll, Sandbox, Identity, Count}
 use Rattle.instruction.specs.declared.Decoded.{Decoded}
 use Rattle.instruction.specs.declared.Decoded.the-variants.{Legal, Illegal}
 use Rattle.instruction.specs.Program.{count, instructionAt}
@@ -74,6 +74,7 @@ module _ (mayFlow : ℕ → ℕ → Bool) where
       execute-view (Poll a b c) s = taken-view a b (withPc c t)
       execute-view (Sandbox a b c) s = split (leb c (t .spare)) (λ e. rw e) (λ e. rw e)
       execute-view (Identity a b) s = refl
+      execute-view (Count a) s = rw count-view
 
       carriedOut-view : (d : Decoded) (s : ℕ) → carriedOut mayFlow joined d s (viewTask sees t) ≡ viewOutcome sees (carriedOut mayFlow joined d s t)
       carriedOut-view (Legal i) s = execute-view i s
@@ -116,6 +117,7 @@ module _ (mayFlow : ℕ → ℕ → Bool) where
           rw e record { rises = order .reflexive (t .label); allowed = (omega arith, omega arith, order .reflexive (t .label)) })
           (λ e. rw e (withoutAction-contained _ refl refl))
       execute-contained n (Identity a b) h = withoutAction-contained _ refl refl
+      execute-contained n (Count a) h = withoutAction-contained _ refl refl
 
       carriedOut-contained : (program : List ℕ) (d : Decoded) → instructionAt program (t .pc) ≡ d → Contained s t (carriedOut mayFlow joined d s t)
       carriedOut-contained program (Legal i) e = execute-contained (count program) i (at-sound program (t .pc) i e)

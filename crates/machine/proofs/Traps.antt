@@ -1,4 +1,4 @@
--- 01's traps of this trade, and four more: a state each on which a machine that falls into the trap breaks the view law.
+-- 01's traps of this trade, and five more: a state each on which a machine that falls into the trap breaks the view law.
 -- Rows by computation, for an observer from whom the named task or message is hidden.
 use Prim.Native.Nat.{ℕ}
 use mathlib.Core.Path.{_≡_, refl}
@@ -50,6 +50,8 @@ pub record Traps : Type 0 where
   pub skipped : ShownAlike 0 (state (0x01 ∷ 0 ∷ 0 ∷ 0 ∷ []) 0 (task 0 0) 1 (task 1 0))
   -- the oldest message taken and its label tested then: the oldest is hidden
   pub oldest : ShownAlike 0 (state (0x09 ∷ 0 ∷ 1 ∷ 0 ∷ []) 0 (withMailbox (message 1 ∷ message 0 ∷ []) (task 0 0)) 2 (task 1 0))
+  -- a count of all messages: one of two is hidden
+  pub counted : ShownAlike 0 (state (0x0D ∷ 0 ∷ 0 ∷ 0 ∷ []) 0 (withMailbox (message 1 ∷ message 0 ∷ []) (task 0 0)) 2 (task 1 0))
   -- a send that skips its label check: the sender is hidden
   pub unchecked : ShownAlike 0 (state (send 1 0) 0 (task 1 0) 1 (task 0 0))
   -- a raise that replaces the label: the task is hidden from the observer of label 2
@@ -62,4 +64,4 @@ pub record Traps : Type 0 where
 pub traps : Traps
 unfolding Lists.each Label.flows Table.decode Program.instructionAt Effect.execute Effect.outcome Turn.turnBy
     Turn.turnsBy Post.post View.viewBy
-traps = record { limit = refl; told = refl; child = refl; skipped = refl; oldest = refl; unchecked = refl; replaced = refl; posted = refl; crowded = refl }
+traps = record { limit = refl; told = refl; child = refl; skipped = refl; oldest = refl; counted = refl; unchecked = refl; replaced = refl; posted = refl; crowded = refl }

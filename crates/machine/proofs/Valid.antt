@@ -13,7 +13,7 @@ use Rattle.wire.specs.Lists.{Bytes}
 use Rattle.wire.proofs.Lists.{split, and-both, every-at, getD-set-at}
 use Rattle.label.proofs.Order.{Order}
 use Rattle.instruction.specs.declared.Instruction.{Instruction}
-use Rattle.instruction.specs.declared.Instruction.the-variants.{End, Set, Copy, Add, Subtract, Go, Zero, Raise, Send, Take, Poll, Sandbox, Identity}
+use Rattle.instruction.specs.declared.Instruction.the-variants.{End, Set, Copy, Add, Subtract, Go, Zero, Raise, Send, Take, Poll, Sandbox, Identity, Count}
 use Rattle.instruction.specs.declared.Decoded.{Decoded}
 use Rattle.instruction.specs.declared.Decoded.the-variants.{Legal, Illegal}
 use Rattle.instruction.proofs.Encode.{encode}
@@ -21,13 +21,13 @@ use Rattle.instruction.specs.Program.{count, instructionAt, isLegal}
 use Rattle.instruction.proofs.Table.{Sound}
 use Rattle.instruction.proofs.Program.{at-below, at-sound, at-bytes, legal-at}
 use Rattle.machine.specs.State.{Message, Task, Slot, unused, used, State, slotAt, spareOf, withKind, withLabel, withSpare, withPc, withMailbox, noMessage, message, register, withRegister, next}
-use Rattle.machine.specs.Effect.{Action, noAction, deliver, spawn, Outcome, withoutAction, receives, childOf, childSlot, found, taken, execute, carriedOut, outcome}
+use Rattle.machine.specs.Effect.{Action, noAction, deliver, spawn, Outcome, withoutAction, receives, childOf, childSlot, receivable, found, taken, execute, carriedOut, outcome}
 use Rattle.machine.specs.Turn.{hasRoom, enqueue, perform, applied, successor, step, turnBy, turnsBy}
 use Rattle.machine.specs.Post.{hostMessage, post}
 use Rattle.machine.specs.View.{viewSlot, viewBy}
 use Rattle.machine.specs.Valid.{Valid}
 use Rattle.machine.proofs.Rules.{MessageFacts, MailboxFacts, TaskFacts, SlotFacts, slot-facts, slot-valid, spares-free, spares-test}
-use Rattle.machine.proofs.Mailbox.{mailbox-keep, mailbox-without, mailbox-append, mailbox-nil}
+use Rattle.machine.proofs.Mailbox.{mailbox-keep, mailbox-without, mailbox-append, mailbox-nil, mailbox-64}
 use Rattle.machine.proofs.Effect.{outcome-contained}
 use Rattle.machine.proofs.Spare.{Spares, spares-deliver, spares-view, spares-applied}
 
@@ -129,6 +129,10 @@ module _ (mayFlow : ℕ → ℕ → Bool) (joined : ℕ → ℕ → ℕ) (order 
     taken-ok a b otherwise h =
         split (ltb 0 (found mayFlow t .receivable)) (λ e. rw e (withoutAction-ok _ (receives-ok a b (found mayFlow t .oldest)))) (λ e. rw e (withoutAction-ok otherwise h))
 
+    -- a mailbox holds at most 64 messages, and no more are receivable
+    receivable-64 : found mayFlow t .receivable ≤ 64
+    receivable-64 = omega (arith, mailbox-64 _ (mailbox-keep (t .mailbox) (ok .mailbox) (receivable mayFlow (t .label))))
+
     execute-ok : (i : Instruction) → Sound n i → Bytes (encode i) → OutcomeFacts n s (execute mayFlow joined i s t)
     unfolding execute
     execute-ok End h g = withoutAction-ok _ (kind-ok n s t ok 2 (omega arith) (omega arith))
@@ -157,6 +161,7 @@ module _ (mayFlow : ℕ → ℕ → Bool) (joined : ℕ → ℕ → ℕ) (order 
         (λ e. rw e (withoutAction-ok _ (kind-ok n s t ok 5 (omega arith) (omega arith))))
     execute-ok (Identity a b) h g =
         withoutAction-ok _ (next-ok n s _ (register-ok n s _ (register-ok n s t ok a (t .label) (omega (arith, ok .label))) b s (omega (arith, ok .spare))) before)
+    execute-ok (Count a) h g = gets-ok a (found mayFlow t .receivable) (omega (arith, receivable-64))
 
   module _ (program : List ℕ) (bytes : Bytes program) (size : count program ≡ n) where
     carriedOut-ok : (d : Decoded) → instructionAt program (t .pc) ≡ d → OutcomeFacts n s (carriedOut mayFlow joined d s t)

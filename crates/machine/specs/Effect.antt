@@ -6,7 +6,7 @@ use lib.Dec.{leb, ltb, eqb}
 use lib.ListN.{length, replicate}
 use Rattle.wire.specs.Lists.{keep, firstIndex}
 use Rattle.instruction.specs.declared.Instruction.{Instruction}
-use Rattle.instruction.specs.declared.Instruction.the-variants.{End, Set, Copy, Add, Subtract, Go, Zero, Raise, Send, Take, Poll, Sandbox, Identity}
+use Rattle.instruction.specs.declared.Instruction.the-variants.{End, Set, Copy, Add, Subtract, Go, Zero, Raise, Send, Take, Poll, Sandbox, Identity, Count}
 use Rattle.instruction.specs.declared.Decoded.{Decoded}
 use Rattle.instruction.specs.declared.Decoded.the-variants.{Legal, Illegal}
 use Rattle.instruction.specs.Program.{count, instructionAt}
@@ -87,6 +87,7 @@ module _ (mayFlow : ℕ → ℕ → Bool) where
         (record { task = next (withRegister a (childSlot s t c) (withSpare (t .spare - c) t)); action = spawn (childSlot s t c) (childOf s (t .label) b c) })
         (stopped 5 t)
     execute (Identity a b) s t = gets b s (withRegister a (t .label) t)
+    execute (Count a) s t = gets a (found t .receivable) t
 
     -- no accepted image has an illegal instruction
     abbrev pub carriedOut : Decoded → ℕ → Task → Outcome

@@ -33,6 +33,7 @@ examples = record {
   p9 = (refl, refl);
   delivery = (refl, refl, refl, refl, refl, refl, refl, refl, refl);
   taken = refl;
+  counted = (refl, refl, refl);
   postOrder = (refl, refl, refl, refl);
   posts = (refl, refl);
   free = record { turns = refl; posts = refl };

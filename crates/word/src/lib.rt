@@ -7,8 +7,8 @@ ghost use Rattle.wire.specs.Inner.{same};
 ghost use Rattle.word.specs.Word.{wordOf};
 ghost use Rattle.word.specs.Inner.{codeOf};
 
-// The number of words: their codes are 0 to 12.
-pub const WORDS: u8 = 13;
+// The number of words: their codes are 0 to 13.
+pub const WORDS: u8 = 14;
 
 // Writes the word of a code, nothing where the table has none: how many bytes.
 pub fn put(out: &mut [u8], code: u8) -> usize
@@ -29,6 +29,7 @@ pub fn put(out: &mut [u8], code: u8) -> usize
         0x0A => text::put(out, b"poll"),
         0x0B => text::put(out, b"sandbox"),
         0x0C => text::put(out, b"self"),
+        0x0D => text::put(out, b"count"),
         _ => 0,
     }
 }
@@ -42,7 +43,7 @@ fn is_word(s: &[u8], code: u8) -> bool
     wire::same(s, &word[..n])
 }
 
-// The code of a word, 13 where it is not in the table.
+// The code of a word, `WORDS` where it is not in the table.
 pub fn code_of(s: &[u8]) -> u8
     ensures { λ r. ⌜ r ≡ codeOf (now (s .entry)) ⌝ }
 {

@@ -21,6 +21,8 @@ decode-spec =
     (λ c κs. tt)
     (λ c κs. tt)
     (λ c κs. tt)
+    (λ c κs. tt)
+    (λ c. search by-row)
     (λ c. search by-row)
     (λ c. search by-row)
     (λ c. search by-row)

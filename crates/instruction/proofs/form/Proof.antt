@@ -19,4 +19,5 @@ form-spec =
     (λ c. search form-at)
     (λ c. search form-at)
     (λ c. search form-at)
+    (λ c. search form-at)
     (λ c. form-first _ _ _ _ (c .match .rest)))
