@@ -1,4 +1,4 @@
-//! The thirteen instructions, their words and how four bytes are decoded into one.
+//! The fourteen instructions, their words and how four bytes are decoded into one.
 
 use crate::label::Label;
 
@@ -42,11 +42,13 @@ pub enum Instruction {
     Poll { value: Register, sender: Register, otherwise: Target },
     Sandbox { slot: Register, start: Target, size: u8 },
     Own { label: Register, slot: Register },
+    Count { to: Register },
 }
 
 /// The words of the instructions, each at the index that is its code.
-const WORDS: [&str; 13] =
-    ["end", "set", "copy", "add", "subtract", "go", "zero", "raise", "send", "take", "poll", "sandbox", "self"];
+const WORDS: [&str; 14] = [
+    "end", "set", "copy", "add", "subtract", "go", "zero", "raise", "send", "take", "poll", "sandbox", "self", "count",
+];
 
 impl Instruction {
     /// How many bytes hold an instruction.
@@ -71,6 +73,7 @@ impl Instruction {
             [0x0A, a, b, c] => Poll { value: register(a)?, sender: register(b)?, otherwise: target(c)? },
             [0x0B, a, b, c @ 1..=15] => Sandbox { slot: register(a)?, start: target(b)?, size: c },
             [0x0C, a, b, 0] => Own { label: register(a)?, slot: register(b)? },
+            [0x0D, a, 0, 0] => Count { to: register(a)? },
             _ => return None,
         })
     }

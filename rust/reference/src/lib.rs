@@ -1,4 +1,4 @@
-//! A plain interpreter of document 01 and requests U1 to U3 of document 02, written separately from the monitor and
+//! A plain interpreter of document 01 and requests U1 to U4 of document 02, written separately from the monitor and
 //! compared with it.
 
 #![forbid(unsafe_code)]

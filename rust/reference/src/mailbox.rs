@@ -22,6 +22,15 @@ pub struct Look {
     pub looked: usize,
 }
 
+/// What the search for receivable messages tells.
+#[derive(Debug, Clone, Copy, PartialEq, Eq)]
+pub struct Search {
+    /// The index of the oldest receivable message, if there is one.
+    pub oldest: Option<usize>,
+    /// How many messages are receivable.
+    pub receivable: u32,
+}
+
 /// Messages, oldest first, with a count for each label.
 #[derive(Debug)]
 pub struct Mailbox {
@@ -65,10 +74,21 @@ impl Mailbox {
         room
     }
 
+    /// Searches the whole mailbox for the messages whose labels flow to the receiver's.
+    pub fn search(&self, receiver: Label) -> Search {
+        let mut search = Search { oldest: None, receivable: 0 };
+        for (index, message) in self.messages.iter().enumerate() {
+            if message.label.flows_to(receiver) {
+                search.oldest = search.oldest.or(Some(index));
+                search.receivable += 1;
+            }
+        }
+        search
+    }
+
     /// Takes out the oldest message whose label flows to the receiver's.
     pub fn take(&mut self, receiver: Label) -> Option<Message> {
-        let receivable = |message: &Message| message.label.flows_to(receiver);
-        let oldest = self.messages.iter().position(receivable)?;
+        let oldest = self.search(receiver).oldest?;
         let message = self.messages.remove(oldest)?;
         self.counts[message.label.index()] -= 1;
         Some(message)

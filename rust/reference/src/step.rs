@@ -92,6 +92,7 @@ impl Task {
                 registers.set(label, self.label.number().into());
                 registers.set(slot, own.number().into());
             }
+            Instruction::Count { to } => registers.set(to, self.mailbox.search(self.label).receivable),
         }
         Effect::Next
     }

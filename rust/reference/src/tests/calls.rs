@@ -15,7 +15,7 @@ fn mixed() -> Image {
 }
 
 /// What the view for this label leaves of an image.
-fn seen(mut image: Image, observer: u8) -> Image {
+pub(super) fn seen(mut image: Image, observer: u8) -> Image {
     for slot in &mut image.slots {
         *slot = slot.take().filter(|task| task.label | observer == observer);
     }

@@ -19,10 +19,11 @@ take 5 6 0
 poll 7 1 9
 sandbox 3 8 15
 self 6 7 0
+count 5 0 0
 ";
 
 /// The program that `TYPED` lists.
-const PROGRAM: [Instruction; 13] = [
+const PROGRAM: [Instruction; 14] = [
     [0x00, 0, 0, 0],
     [0x01, 1, 200, 99],
     [0x02, 2, 3, 0],
@@ -36,6 +37,7 @@ const PROGRAM: [Instruction; 13] = [
     [0x0A, 7, 1, 9],
     [0x0B, 3, 8, 15],
     [0x0C, 6, 7, 0],
+    [0x0D, 5, 0, 0],
 ];
 
 const LINE: &str = "end 0 0 0\n";
@@ -109,6 +111,17 @@ fn operands_inside_the_table_are_turned_both_ways_and_others_are_6() {
             assert_text_refused(&text, number);
             assert_program_refused(&[END, instruction].concat(), number);
         }
+    }
+}
+
+#[test]
+fn count_is_a_word_with_a_register_and_two_zeros() {
+    assert_pair("count 0 0 0\ncount 7 0 0\n", &[[0x0D, 0, 0, 0], [0x0D, 7, 0, 0]]);
+    for line in ["count 8 0 0\n", "count 7 1 0\n", "count 7 0 1\n", "count 256 0 0\n"] {
+        assert_text_refused(line, 6);
+    }
+    for line in ["count 7\n", "count 7 0\n", "count 7 0 0 0\n", "Count 7 0 0\n", "counts 7 0 0\n"] {
+        assert_text_refused(line, 16);
     }
 }
 
@@ -258,7 +271,7 @@ fn program_lengths_outside_the_rule_are_5_for_the_lister() {
 
 #[test]
 fn codes_behind_the_table_are_6_for_the_lister() {
-    for code in 13..=255 {
+    for code in 14..=255 {
         assert_program_refused(&[END, [code, 0, 0, 0]].concat(), 6);
         assert_program_refused(&[[code, 0, 0, 0], END].concat(), 6);
     }
@@ -267,10 +280,10 @@ fn codes_behind_the_table_are_6_for_the_lister() {
 #[test]
 fn the_lister_gives_5_then_6_then_13() {
     for length in [1, 3, 5, 1028] {
-        assert_program_refused(&vec![13; length], 5);
+        assert_program_refused(&vec![14; length], 5);
     }
-    assert_program_refused(&[13; 4], 6);
-    assert_program_refused(&[13; 1024], 6);
+    assert_program_refused(&[14; 4], 6);
+    assert_program_refused(&[14; 1024], 6);
     assert_eq!(disassemble(&END, &mut []), refused(13));
 }
 

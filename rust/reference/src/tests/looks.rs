@@ -7,9 +7,9 @@ use crate::sender::Sender;
 use crate::{looks, post};
 use layout::{Message, Task, HOST, SLOTS};
 
-const LABELS: u8 = 16;
+pub(super) const LABELS: u8 = 16;
 const PER_LABEL: usize = 4;
-const CAPACITY: usize = 64;
+pub(super) const CAPACITY: usize = 64;
 
 /// Numbers that look random and are the same in each run.
 struct Made(u64);
@@ -39,7 +39,7 @@ impl Made {
 }
 
 /// Mail of every length, each of as few labels as can hold it, of all, and of every number between.
-fn made_up_mail() -> Vec<Vec<Message>> {
+pub(super) fn made_up_mail() -> Vec<Vec<Message>> {
     let mut made = Made(3);
     let mut labels: Vec<u8> = (0..LABELS).collect();
     let mut mails = Vec::new();
@@ -57,7 +57,7 @@ fn count(mail: &[Message], label: u8) -> usize {
     mail.iter().filter(|message| message.label == label).count()
 }
 
-fn label(number: u8) -> Label {
+pub(super) fn label(number: u8) -> Label {
     Label::new(number).expect("a label")
 }
 
@@ -68,7 +68,7 @@ fn push(mailbox: &mut Mailbox, message: &Message) -> bool {
 }
 
 /// The mailbox that holds this mail.
-fn mailbox(mail: &[Message]) -> Mailbox {
+pub(super) fn mailbox(mail: &[Message]) -> Mailbox {
     let mut mailbox = Mailbox::new();
     assert!(mail.iter().all(|message| push(&mut mailbox, message)));
     mailbox

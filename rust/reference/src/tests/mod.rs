@@ -6,6 +6,7 @@ mod listings;
 mod looks;
 mod posts;
 mod refusals;
+mod searches;
 mod steps;
 
 use crate::turns;
@@ -20,7 +21,7 @@ const UNTOUCHED: u8 = 0xAA;
 const END: Instruction = [0, 0, 0, 0];
 
 /// By code, the least value that each operand may not have, in a program of two instructions.
-const OPERAND_LIMITS: [[u16; 3]; 13] = [
+const OPERAND_LIMITS: [[u16; 3]; 14] = [
     [1, 1, 1],
     [8, 256, 256],
     [8, 8, 1],
@@ -34,6 +35,7 @@ const OPERAND_LIMITS: [[u16; 3]; 13] = [
     [8, 8, 2],
     [8, 2, 16],
     [8, 8, 1],
+    [8, 1, 1],
 ];
 
 const SANDBOX: u8 = 11;

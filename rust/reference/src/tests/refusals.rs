@@ -77,8 +77,19 @@ fn instructions_outside_the_table_are_6_and_others_accepted() {
 }
 
 #[test]
+fn count_of_a_register_above_7_or_with_more_operands_is_6() {
+    for operands in [[8, 0, 0], [255, 0, 0], [7, 1, 0], [7, 255, 0], [7, 0, 1], [7, 0, 255], [0, 7, 7]] {
+        let [a, b, c] = operands;
+        assert_refused(&image(&[END, [0x0D, a, b, c]], &[]).bytes(), 6);
+    }
+    for register in 0..8 {
+        assert_eq!(check(&image(&[[0x0D, register, 0, 0]], &[]).bytes()), 0);
+    }
+}
+
+#[test]
 fn codes_behind_the_table_are_6() {
-    for code in 13..=255 {
+    for code in 14..=255 {
         assert_refused(&image(&[END, [code, 0, 0, 0]], &[]).bytes(), 6);
     }
 }
@@ -198,7 +209,7 @@ fn the_slot_of_a_post_comes_ahead_of_its_label_and_the_label_ahead_of_the_image(
 #[test]
 fn the_first_fault_is_given() {
     let end = image(&[END], &[]);
-    let wrong_code = image(&[[13, 0, 0, 0], END], &[]).bytes();
+    let wrong_code = image(&[[14, 0, 0, 0], END], &[]).bytes();
     let faulty_task = |change: fn(&mut Task)| {
         let mut image = image(&[END], &[14, 15]);
         image.task(15).label = 16;
