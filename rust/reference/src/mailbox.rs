@@ -74,21 +74,22 @@ impl Mailbox {
         room
     }
 
+    /// The indices of the messages whose labels flow to the receiver's, oldest first, each found when it is asked for.
+    fn receivable(&self, receiver: Label) -> impl Iterator<Item = usize> + '_ {
+        let flows = move |(_, message): &(usize, &Message)| message.label.flows_to(receiver);
+        self.messages.iter().enumerate().filter(flows).map(|(index, _)| index)
+    }
+
     /// Searches the whole mailbox for the messages whose labels flow to the receiver's.
     pub fn search(&self, receiver: Label) -> Search {
-        let mut search = Search { oldest: None, receivable: 0 };
-        for (index, message) in self.messages.iter().enumerate() {
-            if message.label.flows_to(receiver) {
-                search.oldest = search.oldest.or(Some(index));
-                search.receivable += 1;
-            }
-        }
-        search
+        let none = Search { oldest: None, receivable: 0 };
+        self.receivable(receiver)
+            .fold(none, |told, index| Search { oldest: told.oldest.or(Some(index)), receivable: told.receivable + 1 })
     }
 
     /// Takes out the oldest message whose label flows to the receiver's.
     pub fn take(&mut self, receiver: Label) -> Option<Message> {
-        let oldest = self.search(receiver).oldest?;
+        let oldest = self.receivable(receiver).next()?;
         let message = self.messages.remove(oldest)?;
         self.counts[message.label.index()] -= 1;
         Some(message)

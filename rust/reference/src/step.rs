@@ -55,7 +55,7 @@ fn turn(image: &mut Image<'_>) -> bool {
     true
 }
 
-/// Puts the message into the mailbox of a live task with room for it, and else drops it; tells whether it was delivered.
+/// Puts the message into the mailbox of a live task with room for it, else drops it; tells whether it was delivered.
 pub fn deliver(tasks: &mut Tasks, to: u32, message: Message) -> bool {
     let receiver = Slot::new(to).and_then(|slot| tasks[slot.index()].as_mut());
     receiver.filter(|task| task.is_live()).is_some_and(|task| task.mailbox.push(message))

@@ -114,17 +114,6 @@ fn operands_inside_the_table_are_turned_both_ways_and_others_are_6() {
     }
 }
 
-#[test]
-fn count_is_a_word_with_a_register_and_two_zeros() {
-    assert_pair("count 0 0 0\ncount 7 0 0\n", &[[0x0D, 0, 0, 0], [0x0D, 7, 0, 0]]);
-    for line in ["count 8 0 0\n", "count 7 1 0\n", "count 7 0 1\n", "count 256 0 0\n"] {
-        assert_text_refused(line, 6);
-    }
-    for line in ["count 7\n", "count 7 0\n", "count 7 0 0 0\n", "Count 7 0 0\n", "counts 7 0 0\n"] {
-        assert_text_refused(line, 16);
-    }
-}
-
 /// The powers of two would be 0 if they were wrapped to 1, 2, 4, 8 or 16 bytes.
 #[test]
 fn numbers_above_255_are_6_however_long() {

@@ -140,13 +140,6 @@ fn take_and_poll_give_16_as_the_sender_of_a_post() {
 }
 
 #[test]
-fn count_has_a_post_that_flows_to_the_tasks_label_and_no_other() {
-    for (label, number) in [(0, 1), (1, 1), (4, 1), (5, 1), (2, 0), (7, 0), (15, 0)] {
-        assert_step_after_post([0xD, 3, 0, 0], label, |task| (task.place, task.registers[3]) = (2, number));
-    }
-}
-
-#[test]
 fn a_post_that_does_not_flow_to_the_tasks_label_waits_there() {
     for label in [2, 7, 8, 15] {
         assert_step_after_post([9, 3, 4, 0], label, |_| {});

@@ -77,17 +77,6 @@ fn instructions_outside_the_table_are_6_and_others_accepted() {
 }
 
 #[test]
-fn count_of_a_register_above_7_or_with_more_operands_is_6() {
-    for operands in [[8, 0, 0], [255, 0, 0], [7, 1, 0], [7, 255, 0], [7, 0, 1], [7, 0, 255], [0, 7, 7]] {
-        let [a, b, c] = operands;
-        assert_refused(&image(&[END, [0x0D, a, b, c]], &[]).bytes(), 6);
-    }
-    for register in 0..8 {
-        assert_eq!(check(&image(&[[0x0D, register, 0, 0]], &[]).bytes()), 0);
-    }
-}
-
-#[test]
 fn codes_behind_the_table_are_6() {
     for code in 14..=255 {
         assert_refused(&image(&[END, [code, 0, 0, 0]], &[]).bytes(), 6);

@@ -21,49 +21,23 @@ fn full_mail() -> Vec<Message> {
     (0..CAPACITY as u8).map(message).collect()
 }
 
-/// How many of four messages of each label are receivable: those of each label made of the receiver's bits.
-fn count_of_full_mail(receiver: u8) -> u32 {
-    4 << receiver.count_ones()
-}
-
-#[test]
-fn an_empty_mailbox_has_no_oldest_message() {
-    for receiver in 0..LABELS {
-        assert_eq!(search(&[], receiver), Search { oldest: None, receivable: 0 });
-    }
-}
-
 #[test]
 fn the_search_tells_the_oldest_and_how_many() {
     let mail = mail([(2, 9, 70), (4, 8, 71), (15, 7, 72), (5, 16, 73), (0, 6, 74), (8, 5, 75)]);
     assert_eq!(search(&mail, 5), Search { oldest: Some(1), receivable: 3 });
-    assert_eq!(search(&mail, 15), Search { oldest: Some(0), receivable: 6 });
     assert_eq!(search(&mail, 1), Search { oldest: Some(4), receivable: 1 });
-    assert_eq!(search(&mail, 8), Search { oldest: Some(4), receivable: 2 });
     assert_eq!(search(&mail[..4], 8), Search { oldest: None, receivable: 0 });
-    assert_eq!(search(&mail[5..], 8), Search { oldest: Some(0), receivable: 1 });
-}
-
-#[test]
-fn the_search_tells_the_first_of_all_receivable_messages_and_their_number() {
-    for mail in made_up_mail() {
-        for receiver in 0..LABELS {
-            let indices = receivable(&mail, receiver);
-            let told = Search { oldest: indices.first().copied(), receivable: indices.len() as u32 };
-            assert_eq!(search(&mail, receiver), told, "{receiver} in {mail:?}");
-        }
-    }
 }
 
 #[test]
 fn takes_take_what_the_search_tells_until_it_tells_none() {
-    for mail in made_up_mail().iter().step_by(3) {
+    for mail in &made_up_mail() {
         for receiver in 0..LABELS {
             let mut mailbox = mailbox(mail);
             let indices = receivable(mail, receiver);
             for (taken, &index) in indices.iter().enumerate() {
                 let told = Search { oldest: Some(index - taken), receivable: (indices.len() - taken) as u32 };
-                assert_eq!(mailbox.search(label(receiver)), told);
+                assert_eq!(mailbox.search(label(receiver)), told, "{receiver} in {mail:?}");
                 let message = mailbox.take(label(receiver));
                 assert_eq!(message.map(|message| message.value), Some(mail[index].value));
             }
@@ -83,22 +57,17 @@ fn counting_tasks() -> Image {
     image
 }
 
-/// The tasks after the count of each.
+/// The tasks after each has counted four messages of each label made of bits of its own.
 fn counted_tasks() -> Image {
     let mut image = counting_tasks();
     for task in image.slots.iter_mut().flatten() {
-        (task.place, task.registers[3]) = (1, count_of_full_mail(task.label));
+        (task.place, task.registers[3]) = (1, 4 << task.label.count_ones());
     }
     image
 }
 
-#[test]
-fn a_full_mailbox_counts_4_with_label_0_and_64_with_label_15() {
-    assert_eq!([0, 5, 7, 15].map(count_of_full_mail), [4, 16, 32, 64]);
-    assert_eq!(after(&counting_tasks(), 16), (counted_tasks().bytes(), 16));
-}
-
-/// The secrecy rule: an image and the observer's view of it have equal views after the counts.
+/// The secrecy rule: an image and the observer's view of it have equal views after the counts. For label 15 the view is
+/// the image.
 #[test]
 fn what_an_observer_may_not_see_changes_no_count_that_it_sees() {
     for observer in 0..LABELS {

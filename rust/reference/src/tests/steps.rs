@@ -134,42 +134,27 @@ fn with_nothing_receivable_take_waits_and_poll_jumps() {
     }
 }
 
-/// A count into register 3 gives this number, whatever register 3 held, and leaves the mail as it is.
-fn assert_count(mail: Vec<Message>, number: u32) {
-    let mut image = about_to([0xD, 3, 0, 0]);
-    image.task(2).mail = mail;
-    for before in [103, 0, u32::MAX] {
-        image.task(2).registers[3] = before;
-        assert_step(&image, |task| (task.place, task.registers[3]) = (2, number));
-    }
-}
-
 #[test]
 fn count_of_an_empty_mailbox_is_0_in_whichever_register() {
-    assert_count(mail([]), 0);
     for register in 0..8 {
         assert_registers([0xD, register, 0, 0], &[(register.into(), 0)]);
     }
 }
 
 #[test]
-fn count_leaves_out_hidden_mail_at_the_front_in_the_middle_and_at_the_end() {
-    assert_count(mixed_mail(), 2);
-    assert_count(mail([(4, 7, 72), (0, 6, 73)]), 2);
-    assert_count(mail([(2, 9, 70), (4, 7, 72), (0, 6, 73)]), 2);
-    assert_count(mail([(4, 7, 72), (2, 9, 70), (0, 6, 73)]), 2);
-    assert_count(mail([(4, 7, 72), (0, 6, 73), (2, 9, 70)]), 2);
-    assert_count(mail([(8, 1, 1), (5, 2, 2), (7, 3, 3), (1, 16, 4), (13, 5, 5), (5, 6, 6), (10, 7, 7)]), 3);
+fn count_leaves_out_what_is_not_receivable_and_leaves_the_mail_as_it_is() {
+    let hidden = mail([(2, 9, 70), (15, 8, 71)]);
+    let around = mail([(8, 1, 1), (5, 2, 2), (7, 3, 3), (1, 16, 4), (13, 5, 5), (5, 6, 6), (10, 7, 7)]);
+    for (mail, number) in [(hidden, 0), (around, 3)] {
+        let mut image = about_to([0xD, 3, 0, 0]);
+        image.task(2).mail = mail;
+        assert_step(&image, |task| (task.place, task.registers[3]) = (2, number));
+    }
 }
 
-#[test]
-fn count_goes_on_with_nothing_receivable() {
-    assert_count(mail([(2, 9, 70), (15, 8, 71)]), 0);
-}
-
-/// A task of label 5 with mixed mail, whose register 0 holds its own slot, counts into register 3, carries out this
-/// instruction and counts into register 4: it finds these numbers, and this is the change that the instruction makes.
-fn assert_counts_around(instruction: Instruction, numbers: [u32; 2], change: impl FnOnce(&mut Task)) {
+/// A task of label 5 with mixed mail, whose register 0 holds its own slot, counts 2 messages into register 3, carries
+/// out this instruction and counts this number into register 4; this is the change that the instruction makes.
+fn assert_count_after(instruction: Instruction, number: u32, change: impl FnOnce(&mut Task)) {
     let mut image = image(&[[0xD, 3, 0, 0], instruction, [0xD, 4, 0, 0]], &[2]);
     image.turn_slot = 2;
     let task = image.task(2);
@@ -177,22 +162,20 @@ fn assert_counts_around(instruction: Instruction, numbers: [u32; 2], change: imp
     let mut expected = image.clone();
     expected.turn_slot = 3;
     let task = expected.task(2);
-    (task.place, task.registers[3], task.registers[4]) = (3, numbers[0], numbers[1]);
+    (task.place, task.registers[3], task.registers[4]) = (3, 2, number);
     change(task);
     assert_eq!(after(&image, 33), (expected.bytes(), 3));
 }
 
 #[test]
 fn count_after_a_raise_has_what_became_receivable() {
-    assert_counts_around([7, 4, 0, 0], [2, 2], |_| {});
-    assert_counts_around([7, 2, 0, 0], [2, 3], |task| task.label = 7);
-    assert_counts_around([7, 10, 0, 0], [2, 4], |task| task.label = 15);
+    assert_count_after([7, 2, 0, 0], 3, |task| task.label = 7);
 }
 
 #[test]
 fn count_after_a_take_or_poll_is_one_less() {
     for instruction in [[9, 6, 7, 0], [10, 6, 7, 0]] {
-        assert_counts_around(instruction, [2, 1], |task| {
+        assert_count_after(instruction, 1, |task| {
             (task.registers[6], task.registers[7]) = (72, 7);
             task.mail.remove(2);
         });
@@ -202,7 +185,7 @@ fn count_after_a_take_or_poll_is_one_less() {
 #[test]
 fn count_after_a_send_to_itself_has_the_message_if_it_is_receivable() {
     for (label, number) in [(5, 3), (7, 2)] {
-        assert_counts_around([8, 0, label, 0], [2, number], |task| task.mail.extend(mail([(label, 2, 2)])));
+        assert_count_after([8, 0, label, 0], number, |task| task.mail.extend(mail([(label, 2, 2)])));
     }
 }
 
