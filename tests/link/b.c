@@ -355,14 +355,15 @@ static void make_programs(void)
     put_line(&table_text, &table_code, "copy 1 2 0\n", 0x02010200);
     put_line(&table_text, &table_code, "add 7 7 7\n", 0x03070707);
     put_line(&table_text, &table_code, "subtract 3 4 5\n", 0x04030405);
-    put_line(&table_text, &table_code, "go 12 0 0\n", 0x050c0000);
-    put_line(&table_text, &table_code, "zero 6 12 0\n", 0x06060c00);
+    put_line(&table_text, &table_code, "go 13 0 0\n", 0x050d0000);
+    put_line(&table_text, &table_code, "zero 6 13 0\n", 0x06060d00);
     put_line(&table_text, &table_code, "raise 15 0 0\n", 0x070f0000);
     put_line(&table_text, &table_code, "send 1 15 2\n", 0x08010f02);
     put_line(&table_text, &table_code, "take 3 4 0\n", 0x09030400);
-    put_line(&table_text, &table_code, "poll 5 6 12\n", 0x0a05060c);
-    put_line(&table_text, &table_code, "sandbox 7 12 15\n", 0x0b070c0f);
+    put_line(&table_text, &table_code, "poll 5 6 13\n", 0x0a05060d);
+    put_line(&table_text, &table_code, "sandbox 7 13 15\n", 0x0b070d0f);
     put_line(&table_text, &table_code, "self 1 2 0\n", 0x0c010200);
+    put_line(&table_text, &table_code, "count 7 0 0\n", 0x0d070000);
 
     for (i = 0; i < 256; i++) {
         put_line(&longest_text, &longest_code, "sandbox 7 255 15\n", 0x0b07ff0f);

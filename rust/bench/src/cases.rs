@@ -21,12 +21,12 @@ pub struct Case {
 pub const AIM: f64 = 0.9;
 
 /// All cases, in the order in which they are printed: each kind in two workloads, so that no single image is tuned for,
-/// and beside the full mailboxes one in which every message is dropped.
+/// and beside the full mailboxes one in which every message is dropped and one in which all are counted.
 pub fn cases() -> Vec<Case> {
     full_cases().into_iter().chain(light_cases()).collect()
 }
 
-fn full_cases() -> [Case; 5] {
+fn full_cases() -> [Case; 6] {
     let case = |name, image, mail| Case { name, image, live: 16, late: 0, mail };
     [
         case(
@@ -40,6 +40,7 @@ fn full_cases() -> [Case; 5] {
             640..=800,
         ),
         case("16 tasks, mailboxes full, every message dropped", full_mailboxes::nothing_received(), 1024..=1024),
+        case("16 tasks of 16 labels, mailboxes full and counted", full_mailboxes::counted(), 1024..=1024),
         case("16 tasks, 8 mailboxes full, all messages receivable", full_mailboxes::eight_receivers(), 400..=512),
         case("16 tasks, 12 mailboxes full, all messages receivable", full_mailboxes::twelve_receivers(), 600..=768),
     ]
@@ -84,7 +85,8 @@ mod tests {
     use super::{cases, Case};
     use crate::tally::{Received, Tally};
     use differential::calls::Answer;
-    use layout::instructions::{ADD, COPY, GO, SELF, SET, SUBTRACT, ZERO};
+    use layout::instructions::{ADD, COPY, COUNT, GO, SELF, SET, SUBTRACT, ZERO};
+    use layout::REGISTERS_AT;
     use std::collections::BTreeSet;
 
     /// What is done in the case whose name has these words.
@@ -124,6 +126,18 @@ mod tests {
     fn where_nothing_is_received_every_message_is_dropped() {
         let tally = tally("every message dropped");
         assert!(tally.dropped > 1_000 && tally.delivered == 0 && tally.received.is_empty());
+    }
+
+    #[test]
+    fn where_messages_are_counted_none_goes_and_each_label_has_its_number() {
+        let case = case("counted");
+        assert_eq!(Tally::of(&case.image).codes, BTreeSet::from([COUNT, ADD, GO]));
+        let counted = rithennaw::turns(&case.image, 16).unwrap().image;
+        for slot in rithennaw::Slot::all() {
+            let record = rithennaw::record(&counted, slot);
+            let told = u32::from_be_bytes(*record[REGISTERS_AT + 4 * 3..].first_chunk().unwrap());
+            assert_eq!(told, 4 << record[1].count_ones(), "label {}", record[1]);
+        }
     }
 
     #[test]

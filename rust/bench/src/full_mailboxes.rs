@@ -39,6 +39,15 @@ const RECEIVE_SLOWLY: &str = "
         go receive 0 0
 ";
 
+/// Counts and adds up.
+const COUNT: &str = "
+    program
+    round:
+        count 3 0 0
+        add 2 2 3
+        go round 0 0
+";
+
 /// Each mailbox has 60 messages that its task may not receive ahead of the few that it may.
 pub fn behind_hidden_mail() -> Vec<u8> {
     let mail = four_of_each(1..LABELS) + &message_of(0).repeat(2);
@@ -119,6 +128,11 @@ fn sends_every_label() -> String {
 /// Each sends messages of every label to the next, which has four of each and takes none: all are dropped.
 pub fn nothing_received() -> Vec<u8> {
     image(&sends_every_label(), 0..SLOTS, |slot| sends_to((slot + 1) % SLOTS, slot) + &four_of_each(0..LABELS))
+}
+
+/// A task of each label counts four messages of every label: from 4 to all 64 are receivable.
+pub fn counted() -> Vec<u8> {
+    image(COUNT, 0..SLOTS, |slot| format!("label {slot} {}{}", figure(slot), four_of_each(0..LABELS)))
 }
 
 /// Even slots send messages of every label to odd ones, which receive all of them, more slowly than they come.

@@ -4,6 +4,7 @@
 #![forbid(unsafe_code)]
 
 pub mod arguments;
+pub mod backlogs;
 pub mod calls;
 pub mod cases;
 pub mod compare;
@@ -13,6 +14,7 @@ pub mod instructions;
 pub mod listings;
 pub mod lists;
 pub mod looks;
+pub mod mailboxes;
 pub mod numbers;
 pub mod pairs;
 pub mod posts;

@@ -2,17 +2,14 @@
 //! what the reference interpreter says that it tells.
 
 use crate::damage::FAULTS;
-use crate::images::{self, LABELS, MAIL_MAX, MAIL_PER_LABEL};
+use crate::images::{self, MAIL_MAX, MAIL_PER_LABEL};
+use crate::mailboxes::{mailboxes, IMAGES};
 use crate::process;
-use crate::programs;
 use crate::report::{hex, Mismatch};
 use crate::rng::Rng;
-use layout::{Image, Message, Task, SLOTS};
+use layout::SLOTS;
 use std::ffi::OsStr;
 use std::fmt;
-
-/// Images with a task in each slot: of each length, 0 to 64, they have 64 mailboxes.
-const IMAGES: usize = 4 * (MAIL_MAX + 1);
 
 /// Images of the usual kind, with unused slots.
 const USUAL: u64 = 20;
@@ -48,29 +45,6 @@ pub fn run(tally: &mut LooksTally, program: &OsStr, input: &[u8]) -> Result<(), 
         }
     }
     Ok(())
-}
-
-/// Sixteen tasks of any kind, each with a mailbox one message longer than the one before it, round and round.
-fn mailboxes(number: usize) -> Image {
-    let rng = &mut Rng::new(number as u64);
-    let mut image = Image::new(programs::program(rng, &LABELS));
-    for slot in 0..SLOTS {
-        let label = rng.pick(&LABELS);
-        let task = images::task(rng, image.program.len(), label);
-        let length = (SLOTS * number + slot) % (MAIL_MAX + 1);
-        image.slots[slot] = Some(Task { mail: mail(rng, length), ..task });
-    }
-    image
-}
-
-/// So many messages, of as few labels as can be, of all or of some number in between.
-fn mail(rng: &mut Rng, length: usize) -> Vec<Message> {
-    let mut labels = LABELS;
-    rng.shuffle(&mut labels);
-    let different = rng.between(length.div_ceil(MAIL_PER_LABEL), labels.len());
-    let mut mail = images::all_mail(rng, &labels[..different]);
-    mail.truncate(length);
-    mail
 }
 
 /// An image with each fault, of which nothing is told. Its first mailbox is full and the others nearly empty, so that each

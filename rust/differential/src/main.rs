@@ -4,13 +4,15 @@
 
 #![forbid(unsafe_code)]
 
+use differential::backlogs::BacklogTally;
 use differential::calls::BOTH;
 use differential::compare::Comparison;
 use differential::looks::LooksTally;
+use differential::mailboxes::IMAGES;
 use differential::report::Mismatch;
 use differential::secrecy_report::SecrecyTally;
 use differential::slotsheet::SlotsheetTally;
-use differential::{cases, looks, secrecy, slotsheet, text_cases};
+use differential::{backlogs, cases, looks, secrecy, slotsheet, text_cases};
 use std::env;
 use std::ffi::OsString;
 use std::process::ExitCode;
@@ -69,6 +71,10 @@ fn run(options: &Options) -> bool {
         mismatches.note(text_cases::run(&mut comparison, seed));
         mismatches.note(secrecy::run(&mut secrecy_tally, &BOTH, seed));
     }
+    let mut backlog_tally = BacklogTally::default();
+    for number in 0..IMAGES {
+        mismatches.note(backlogs::run(&mut comparison, &mut backlog_tally, number));
+    }
     let mut slotsheet_tally = SlotsheetTally::default();
     for input in slotsheet::inputs() {
         mismatches.note(slotsheet::run(&mut slotsheet_tally, &options.slotsheet, &input));
@@ -78,9 +84,9 @@ fn run(options: &Options) -> bool {
         mismatches.note(looks::run(&mut looks_tally, &options.lookprobe, &input));
     }
     let tally = comparison.tally;
-    println!("{tally}\n{secrecy_tally}\n{slotsheet_tally}\n{looks_tally}");
-    let programs = [slotsheet_tally.shortfalls(), looks_tally.shortfalls()].concat();
-    let missing = [tally.shortfalls(), secrecy_tally.shortfalls(), programs].concat();
+    println!("{tally}\n{secrecy_tally}\n{backlog_tally}\n{slotsheet_tally}\n{looks_tally}");
+    let calls = [tally.shortfalls(), secrecy_tally.shortfalls(), backlog_tally.shortfalls()].concat();
+    let missing = [calls, slotsheet_tally.shortfalls(), looks_tally.shortfalls()].concat();
     missing.iter().for_each(|missing| eprintln!("differential: {missing}"));
     println!("{} calls compared, {} mismatches", tally.compared, mismatches.0);
     mismatches.0 == 0 && missing.is_empty()

@@ -3,7 +3,7 @@
 use crate::instructions::legal;
 use crate::rng::Rng;
 use layout::instructions::{
-    Operand, ADD, COPY, END, GO, POLL, RAISE, SANDBOX, SELF, SEND, SET, SUBTRACT, TABLE, TAKE, ZERO,
+    Operand, ADD, COPY, COUNT, END, GO, POLL, RAISE, SANDBOX, SELF, SEND, SET, SUBTRACT, TABLE, TAKE, ZERO,
 };
 use layout::Instruction;
 
@@ -13,7 +13,7 @@ pub const PROGRAM_MAX: usize = 256;
 /// Codes by how often a random instruction has them: those that stop or raise a task less often than the others.
 const CODES: &[u8] = &[
     END, SET, SET, COPY, ADD, ADD, SUBTRACT, GO, GO, ZERO, ZERO, RAISE, SEND, SEND, SEND, SEND, TAKE, TAKE, POLL, POLL,
-    POLL, SANDBOX, SANDBOX, SELF,
+    POLL, SANDBOX, SANDBOX, SELF, COUNT, COUNT,
 ];
 
 /// A legal instruction of a program of `n`. Its labels are often of `labels` or 15, so that some sends pass and some
@@ -32,7 +32,7 @@ fn random_instruction(rng: &mut Rng, n: usize, labels: &[u8]) -> Instruction {
 
 /// A fragment that begins at place `at`. Register 1 has the slot to send to and register 2 a value.
 fn fragment(rng: &mut Rng, at: u8, label: u8, size: u8) -> Vec<Instruction> {
-    match rng.below(8) {
+    match rng.below(9) {
         // Sends to every slot, and on to slots that there are not.
         0 => vec![[SET, 7, 0, 1], [SEND, 1, label, 2], [ADD, 1, 1, 7], [GO, at + 1, 0, 0]],
         // Sends back what it receives; sends its own value where there is nothing.
@@ -47,6 +47,8 @@ fn fragment(rng: &mut Rng, at: u8, label: u8, size: u8) -> Vec<Instruction> {
         5 => vec![[TAKE, 3, 4, 0], [ZERO, 3, at, 0], [SEND, 1, label, 3], [GO, at, 0, 0]],
         // Counts down and then ends.
         6 => vec![[SET, 7, 0, 1], [SUBTRACT, 2, 2, 7], [ZERO, 2, at + 4, 0], [GO, at + 1, 0, 0], [END, 0, 0, 0]],
+        // Tells how many messages it may receive, until it has none.
+        7 => vec![[COUNT, 3, 0, 0], [SEND, 1, label, 3], [POLL, 3, 4, at], [GO, at, 0, 0]],
         // Sends its own label and slot about.
         _ => vec![[SELF, 3, 2, 0], [SEND, 1, label, 3], [ADD, 1, 1, 2], [GO, at, 0, 0]],
     }

@@ -6,7 +6,8 @@ use crate::posts::PostOutcome;
 use crate::runs::{End, Posted};
 use crate::secrecy::{posts_at, Trial};
 use crate::secrecy_report::Fact;
-use layout::TASK_LENGTH;
+use layout::instructions::COUNT;
+use layout::{SLOTS, TASK_LENGTH};
 
 impl Trial<'_> {
     /// The facts that hold of the trial with these ends; none where the images are the same at the start.
@@ -18,7 +19,7 @@ impl Trial<'_> {
     }
 
     /// Of the images and lists.
-    fn list_facts(&self, ends: &[End; 2]) -> [(Fact, bool); 7] {
+    fn list_facts(&self, ends: &[End; 2]) -> [(Fact, bool); 8] {
         let [first, second] = self.runs;
         let refused: Vec<&Step> = first.list.iter().chain(&second.list).filter(|step| step.number() != 0).collect();
         let ran: Vec<u8> = self.runs.iter().zip(ends).flat_map(|(run, end)| self.ran(&run.start, &end.image)).collect();
@@ -31,6 +32,7 @@ impl Trial<'_> {
             (Fact::HiddenTaskRan, hidden_ran),
             (Fact::BothRan, hidden_ran && visible_ran),
             (Fact::BusyCountsDiffer, ends[0].busy != ends[1].busy),
+            (Fact::VisibleCounts, (0..SLOTS as u32).any(|slot| self.counts(slot, ends[0].turns))),
         ]
     }
 
@@ -55,6 +57,19 @@ impl Trial<'_> {
             (Fact::HiddenPostsDiffer, posts_at(&hidden[0]) != posts_at(&hidden[1])),
             (Fact::HiddenToVisibleTask, met(&hidden, true)),
         ]
+    }
+
+    /// Whether the first that a visible task does in so many turns is to count, with mail that is hidden in one image and
+    /// not there in the other.
+    fn counts(&self, slot: u32, turns: u64) -> bool {
+        let [first, second] = self.runs.each_ref().map(|run| run.start.as_slice());
+        let [task, other] = [first, second].map(|image| &image[(self.implementation.record)(image, slot)]);
+        let &[1, label, _, high, low, ..] = task else { return false };
+        let program = &first[3..][..usize::from(u16::from_be_bytes([first[1], first[2]]))];
+        let next = program.get(4 * usize::from(u16::from_be_bytes([high, low])));
+        let turn_slot = u32::from(first[3 + program.len()]);
+        let waits = (slot + SLOTS as u32 - turn_slot) % SLOTS as u32;
+        self.sees(label) && next == Some(&COUNT) && u64::from(waits) < turns && task.len() != other.len()
     }
 
     /// The labels at the start of the tasks that are others at the end, their mail aside.

@@ -19,6 +19,7 @@ pub enum Fact {
     HiddenTaskRan,
     BothRan,
     BusyCountsDiffer,
+    VisibleCounts,
     VisibleDelivered,
     VisibleToUnusedSlot,
     VisibleToStoppedTask,
@@ -30,7 +31,7 @@ pub enum Fact {
 }
 
 /// The words for each fact, and the least number of trials of which it holds.
-const FACTS: [(&str, u64); 15] = [
+const FACTS: [(&str, u64); 16] = [
     ("images differ at the start", 2_000),
     ("lists differ", 2_000),
     ("calls refused", 2_000),
@@ -38,6 +39,7 @@ const FACTS: [(&str, u64); 15] = [
     ("hidden task ran", 2_000),
     ("visible and hidden tasks ran", 2_000),
     ("busy counts differ", 2_000),
+    ("visible task counts where hidden mail differs", 1_000),
     ("visible post delivered", 2_000),
     ("visible post to an unused slot", 2_000),
     ("visible post to a stopped task", 2_000),

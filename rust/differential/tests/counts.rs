@@ -1,5 +1,6 @@
 //! A run that compared nothing does not pass, and neither does one in which a call told a number that is not its own.
 
+use differential::backlogs::BacklogTally;
 use differential::calls::{Answer, Call, Post};
 use differential::looks::LooksTally;
 use differential::report::Tally;
@@ -12,8 +13,10 @@ fn a_run_without_calls_lacks_every_count() {
     // that write, 2 for turns, 1 for view and sheet, 14 and 15 for post; 0, 5, 6 and 13 for assemble and disassemble,
     // 16 for assemble; four outcomes of record and four of post.
     assert_eq!(Tally::default().shortfalls().len(), 1 + 16 + 6 * 11 + 5 + 1 + 2 + 2 + 2 * 4 + 1 + 4 + 4);
-    // The observers 0 to 15 and the fifteen facts.
-    assert_eq!(SecrecyTally::default().shortfalls().len(), 16 + 15);
+    // The observers 0 to 15 and the sixteen facts.
+    assert_eq!(SecrecyTally::default().shortfalls().len(), 16 + 16);
+    // The numbers 0 to 64, and counts beside other messages.
+    assert_eq!(BacklogTally::default().shortfalls().len(), 65 + 1);
     // Sheets, and the refusals 1 and 3 to 12.
     assert_eq!(SlotsheetTally::default().shortfalls().len(), 1 + 11);
     // Room after 0 to 63 messages, the fourth after 4 to 64, unused slots and refused images.

@@ -3,12 +3,15 @@
 mod texts;
 mod wrong;
 
+use differential::backlogs::{self, BacklogTally};
 use differential::calls::{Answer, Call, Implementation, Post, MONITOR, REFERENCE};
 use differential::cases;
 use differential::compare::Comparison;
 use differential::report::Outcome;
-use layout::{MESSAGE_LENGTH, TASK_LENGTH};
+use layout::instructions::TAKE;
+use layout::{MESSAGE_LENGTH, REGISTERS_AT, TASK_LENGTH};
 use rithennaw::IMAGE_MIN;
+use wrong::counts::{all_counted, one_turn, turn_by_turn, Counting};
 use wrong::{common_limit, post_and_turn, right, wrong, SEEDS};
 
 /// What is compared for a seed.
@@ -197,6 +200,35 @@ fn a_full_mailbox_counted_over_all_labels() {
 #[test]
 fn a_post_that_runs_a_turn() {
     found(post_and_turn());
+}
+
+/// The count of one mailbox after another, seed for number.
+fn counts(comparison: &mut Comparison, seed: u64) -> Outcome {
+    backlogs::run(comparison, &mut BacklogTally::default(), seed as usize)
+}
+
+/// A turn that counts and takes the oldest receivable message away.
+fn count_and_take(counting: &Counting, image: &[u8]) -> Vec<u8> {
+    let counted = one_turn(image);
+    let register = image[counting.at + 1];
+    let mut taking = image.to_vec();
+    taking[counting.at..][..3].copy_from_slice(&[TAKE, register, register]);
+    let mut took = one_turn(&taking);
+    took[counting.at..][..4].copy_from_slice(&image[counting.at..][..4]);
+    let [from, to] = [&counted, &took].map(|image| reference::record(image, counting.slot).start + REGISTERS_AT - 2);
+    let figures = counted[from..][..TASK_LENGTH - REGISTERS_AT + 2].to_vec();
+    took[to..][..figures.len()].copy_from_slice(&figures);
+    took
+}
+
+#[test]
+fn a_count_of_all_messages_or_one_that_takes_one_away() {
+    let takes_one = wrong(|call, image, out| turn_by_turn(call, image, out, count_and_take));
+    for wrong in [all_counted(), takes_one] {
+        found(wrong);
+        let report = difference_in(counts, [wrong, wrong]).expect("a difference");
+        assert!(report.starts_with("a count is not how many are receivable"), "{report}");
+    }
 }
 
 #[test]

@@ -9,6 +9,7 @@ use differential::rng::Rng;
 use differential::runs::Run;
 use differential::secrecy::{self, Trial};
 use differential::secrecy_report::SecrecyTally;
+use wrong::counts::all_counted;
 use wrong::{common_limit, post_and_turn, right, wrong, SEEDS};
 
 /// A trial of the secrecy rule on that implementation alone fails.
@@ -79,6 +80,11 @@ fn a_post_of_which_every_observer_sees_that_it_was_dropped() {
         }
         answer
     }));
+}
+
+#[test]
+fn a_count_of_hidden_mail() {
+    not_secret(all_counted());
 }
 
 /// A change of a plan; false where the plan has nothing that can be changed so.

@@ -1,6 +1,7 @@
 //! Lists of instructions by the words of U2, with both implementations and the values that it gives.
 
 use differential::calls::{Call, BOTH};
+use layout::instructions::TABLE;
 use layout::Instruction;
 use rithennaw::{LISTING_MAX, PROGRAM_MAX};
 
@@ -89,7 +90,7 @@ fn the_lister_gives_5_before_6_before_13() {
     for length in [0, 1, 3, 5, 1_023, 1_025, 1_028] {
         program_refused(&vec![255; length], 5);
     }
-    program_refused(&[13, 0, 0, 0], 6);
+    program_refused(&[TABLE.len() as u8, 0, 0, 0], 6);
     program_refused(&[0, 0, 0, 1], 6);
     for implementation in BOTH {
         assert_eq!((implementation.call)(Call::Disassemble, &[0; 4], &mut [0; 9]).number, 13);

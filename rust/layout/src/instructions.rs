@@ -1,5 +1,5 @@
-//! The scope document's table of instructions: for each code its word and its operands, once for all packages that write
-//! programs. The reference has its own.
+//! The scope document's table of instructions, with the one of U4: for each code its word and its operands, once for all
+//! packages that write programs. The reference has its own.
 
 use Operand::{Any, Label, Nothing, Register, Size, Target};
 
@@ -46,6 +46,7 @@ table! {
     POLL = 0x0a "poll" Register Register Target;
     SANDBOX = 0x0b "sandbox" Register Target Size;
     SELF = 0x0c "self" Register Register Nothing;
+    COUNT = 0x0d "count" Register Nothing Nothing;
 }
 
 impl Operand {
@@ -66,9 +67,9 @@ impl Operand {
 mod tests {
     use super::TABLE;
 
-    /// Written out from 01's table: what reads `TABLE` would follow a wrong word or code.
+    /// Written out from 01's table and U4: what reads `TABLE` would follow a wrong word or code.
     #[test]
-    fn codes_and_words_are_those_of_01_in_its_order() {
+    fn codes_and_words_are_those_of_the_papers_in_their_order() {
         let rows: Vec<(u8, &str)> = TABLE.iter().map(|row| (row.code, row.word)).collect();
         let should = [
             (0x00, "end"),
@@ -84,6 +85,7 @@ mod tests {
             (0x0a, "poll"),
             (0x0b, "sandbox"),
             (0x0c, "self"),
+            (0x0d, "count"),
         ];
         assert_eq!(rows, should);
     }

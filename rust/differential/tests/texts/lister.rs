@@ -3,6 +3,7 @@
 use super::found;
 use crate::wrong::{right, wrong};
 use differential::calls::{Answer, Call, Implementation};
+use layout::instructions::TABLE;
 
 /// What a lister answers that reads each program as another one.
 fn reading(call: Call, input: &[u8], out: &mut [u8], other: impl Fn(&[u8]) -> Vec<u8>) -> Answer {
@@ -65,7 +66,7 @@ fn an_operand_outside_the_table_that_is_not_listed() {
 fn a_code_behind_the_table_that_is_listed() {
     found(wrong(|call, input, out| {
         reading(call, input, out, |program| match program {
-            [13, rest @ ..] => [&[12], rest].concat(),
+            [code, rest @ ..] if usize::from(*code) == TABLE.len() => [&[code - 1], rest].concat(),
             _ => program.into(),
         })
     }));

@@ -1,5 +1,7 @@
 //! Wrong implementations, made of the reference interpreter, for the tests that must find them.
 
+pub mod counts;
+
 use differential::calls::{Answer, Call, Implementation, REFERENCE};
 use layout::{MESSAGE_LENGTH, TASK_LENGTH};
 
