@@ -4,15 +4,12 @@ use mathlib.Core.Path.{_≡_, refl}
 use mathlib.Core.Bool.{and-true}
 use mathlib.Core.List.{List, [], _∷_}
 use borrow.Author.Tests.{ne-eqb}
-use lib.Dec.{eqb}
-use lib.ListN.{drop}
-use Rattle.wire.proofs.Lists.{split}
 use Rattle.instruction.specs.declared.Instruction.{Instruction}
 use Rattle.instruction.specs.declared.Instruction.the-variants.{End}
 use Rattle.instruction.specs.declared.Decoded.{Decoded}
 use Rattle.instruction.specs.declared.Decoded.the-variants.{Illegal}
-use Rattle.instruction.specs.Table.{blank, Row, row, table, byCode, decodeBy, decode}
-use Rattle.instruction.specs.Inner.{formOf}
+use Rattle.instruction.specs.Table.{Row, table, byCode, decodeBy, decode}
+use Rattle.instruction.specs.Inner.{formIn, formOf}
 
 -- where the code is the number k, the table computes to k's row
 pub decode-at : (d : Decoded) (n code k a b c : ℕ) → code ≡ k → d ≡ byCode (decodeBy n a b c) Illegal table k → d ≡ decode n code a b c
@@ -22,7 +19,7 @@ decode-at d n code k a b c e h = rw e h
 -- an operand that may be any byte is not tested in the code
 pub ruleset by-row = (decode-at, and-true)
 
-pub form-at : (i : Instruction) (code k a b c : ℕ) → code ≡ k → i ≡ byCode (λ r. r .form a b c) End table k → i ≡ formOf code a b c
+pub form-at : (i : Instruction) (code k a b c : ℕ) → code ≡ k → i ≡ formIn table k a b c → i ≡ formOf code a b c
 unfolding formOf
 form-at i code k a b c e h = rw e h
 
@@ -49,10 +46,24 @@ pub decode-none : (n code a b c : ℕ) → NoRow (Unit {0}) code table → Illeg
 unfolding decode
 decode-none n code a b c = none-by-code (decodeBy n a b c) Illegal code
 
--- of a code that no row but the first has, where the first gives what is given without a row
-rows-but-first : {A : Type 0} (f : Row → A) (r : Row) (rs : List Row) (code : ℕ) → NoRow (Unit {0}) code rs → f r ≡ byCode f (f r) (r ∷ rs) code
-rows-but-first f r rs code none = split (eqb code (r .code)) (λ t. rw t) (λ t. rw t (no-row f (f r) (Unit {0}) rs code none))
+-- of a code that no row but the last has
+abbrev pub butLast : List Row → List Row
+butLast [] = []
+butLast (r ∷ []) = []
+butLast (r ∷ q ∷ rs) = r ∷ butLast (q ∷ rs)
 
-pub form-first : (code a b c : ℕ) → NoRow (Unit {0}) code (drop 1 table) → End ≡ formOf code a b c
+abbrev pub lastForm : List Row → ℕ → ℕ → ℕ → Instruction
+lastForm [] a b c = End
+lastForm (r ∷ []) a b c = r .form a b c
+lastForm (r ∷ q ∷ rs) a b c = lastForm (q ∷ rs) a b c
+
+rows-last : (P : Type 0) (rs : List Row) (code a b c : ℕ) → NoRow P code (butLast rs) → lastForm rs a b c ≡ formIn rs code a b c
+rows-last P [] code a b c p = refl
+rows-last P (r ∷ []) code a b c p = refl
+rows-last P (r ∷ q ∷ rs) code a b c p =
+    let ih = rows-last (P × (code ≡ r .code → ⊥)) (q ∷ rs) code a b c p in
+    rw (ne-eqb code (r .code) (given-ahead (P × (code ≡ r .code → ⊥)) code (butLast (q ∷ rs)) p .1)) ih
+
+pub form-last : (code a b c : ℕ) → NoRow (Unit {0}) code (butLast table) → lastForm table a b c ≡ formOf code a b c
 unfolding formOf
-form-first code a b c = rows-but-first (λ r. r .form a b c) (row 0x00 "end" blank blank blank (λ a b c. End)) (drop 1 table) code
+form-last = rows-last (Unit {0}) table

@@ -15,7 +15,7 @@ use Rattle.instruction.specs.declared.Decoded.{Decoded}
 use Rattle.instruction.specs.declared.Decoded.the-variants.{Legal, Illegal}
 use Rattle.instruction.specs.Table.{Operand, R, T, L, S, any, blank, admits, Row, table, legalIf, byCode, decodeBy, decode}
 use Rattle.instruction.specs.Program.{isLegal}
-use Rattle.instruction.specs.Inner.{formOf}
+use Rattle.instruction.specs.Inner.{formIn, formOf}
 use Rattle.instruction.proofs.Encode.{encode}
 
 -- ---- bytes to an instruction and back
@@ -73,10 +73,14 @@ row-form true i e = refl
 row-form false i e = cc
 
 rows-form : (rs : List Row) (n code a b c : ℕ) → isLegal (byCode (decodeBy n a b c) Illegal rs code) ≡ true
-    → byCode (decodeBy n a b c) Illegal rs code ≡ Legal (byCode (λ r. r .form a b c) End rs code)
+    → byCode (decodeBy n a b c) Illegal rs code ≡ Legal (formIn rs code a b c)
 rows-form [] n code a b c e = cc
-rows-form (r ∷ rs) n code a b c e =
-    let ih = rows-form rs n code a b c in
+rows-form (r ∷ []) n code a b c e =
+    split (eqb code (r .code))
+    (λ t. rw t (row-form (admits (r .a) n a && admits (r .b) n b && admits (r .c) n c) (r .form a b c) (rw t at e)))
+    (λ t. cc (rw t at e))
+rows-form (r ∷ q ∷ rs) n code a b c e =
+    let ih = rows-form (q ∷ rs) n code a b c in
     split (eqb code (r .code))
     (λ t. rw t (row-form (admits (r .a) n a && admits (r .b) n b && admits (r .c) n c) (r .form a b c) (rw t at e)))
     (λ t. rw t (ih (rw t at e)))

@@ -120,11 +120,12 @@ pub fn all_legal(program: &[u8]) -> bool
 }
 
 // The form of a code with its operands, which are not looked at. A program whose check has passed has the table's codes alone, so
-// the first of them takes what is left.
+// the last of them takes what is left: with another arm the compiler would test the code and then jump, in two steps.
 fn form(code: u8, a: u8, b: u8, c: u8) -> Instruction
     ensures { λ r. ⌜ r ≡ formOf code a b c ⌝ }
 {
     match code {
+        0x00 => Instruction::End,
         0x01 => Instruction::Set(a, b, c),
         0x02 => Instruction::Copy(a, b),
         0x03 => Instruction::Add(a, b, c),
@@ -137,8 +138,7 @@ fn form(code: u8, a: u8, b: u8, c: u8) -> Instruction
         0x0A => Instruction::Poll(a, b, c),
         0x0B => Instruction::Sandbox(a, b, c),
         0x0C => Instruction::Identity(a, b),
-        0x0D => Instruction::Count(a),
-        _ => Instruction::End,
+        _ => Instruction::Count(a),
     }
 }
 

@@ -74,22 +74,20 @@ impl Mailbox {
         room
     }
 
-    /// The indices of the messages whose labels flow to the receiver's, oldest first, each found when it is asked for.
-    fn receivable(&self, receiver: Label) -> impl Iterator<Item = usize> + '_ {
-        let flows = move |(_, message): &(usize, &Message)| message.label.flows_to(receiver);
-        self.messages.iter().enumerate().filter(flows).map(|(index, _)| index)
+    /// The index of the oldest message whose label flows to the receiver's.
+    fn oldest(&self, receiver: Label) -> Option<usize> {
+        self.messages.iter().position(|message| message.label.flows_to(receiver))
     }
 
-    /// Searches the whole mailbox for the messages whose labels flow to the receiver's.
+    /// Searches the mailbox for the messages whose labels flow to the receiver's.
     pub fn search(&self, receiver: Label) -> Search {
-        let none = Search { oldest: None, receivable: 0 };
-        self.receivable(receiver)
-            .fold(none, |told, index| Search { oldest: told.oldest.or(Some(index)), receivable: told.receivable + 1 })
+        let receivable = self.messages.iter().filter(|message| message.label.flows_to(receiver));
+        Search { oldest: self.oldest(receiver), receivable: receivable.count() as u32 }
     }
 
     /// Takes out the oldest message whose label flows to the receiver's.
     pub fn take(&mut self, receiver: Label) -> Option<Message> {
-        let oldest = self.receivable(receiver).next()?;
+        let oldest = self.oldest(receiver)?;
         let message = self.messages.remove(oldest)?;
         self.counts[message.label.index()] -= 1;
         Some(message)

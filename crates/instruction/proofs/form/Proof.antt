@@ -1,5 +1,5 @@
--- `instruction::form` meets its contract: at an arm's code the table computes to its row, and the last arm is the first row's.
-use Rattle.instruction.proofs.Arms.{form-at, form-first}
+-- `instruction::form` meets its contract: at an arm's code the table computes to its row, and the last arm is the last row's.
+use Rattle.instruction.proofs.Arms.{form-at, form-last}
 use Rattle.instruction.proofs.form.Statement.{statement}
 use Rattle.instruction.proofs.form.Tie as tie
 
@@ -20,4 +20,4 @@ form-spec =
     (λ c. search form-at)
     (λ c. search form-at)
     (λ c. search form-at)
-    (λ c. form-first _ _ _ _ (c .match .rest)))
+    (λ c. form-last _ _ _ _ (c .match .rest)))
