@@ -4,7 +4,7 @@
  * Each call takes an image, the bytes of all tasks; but `rithennaw_assemble` takes text, and `rithennaw_disassemble` a
  * program. The bytes may be any: a call refuses what it cannot take, so the caller checks nothing beforehand. The layout of
  * an image, the meaning of its tasks and the text of a program are the scope document's (01), with its change requests U1,
- * posts, and U2, programs typed by people.
+ * posts, U2, programs typed by people, and U4, how much is waiting: the instruction count, from version 0.4 on.
  *
  * Numbers. All calls but `rithennaw_record` return 0 (RITHENNAW_ACCEPTED), or the number of the first rule that is broken.
  * The order for an image: 1, 2, or 14 and then 15, by the call's own arguments; then the image from front to back; then 11,
@@ -45,8 +45,8 @@ extern "C" {
 
 /* The version of the library: its three numbers, and text with points between them. An image's version is its first byte. */
 #define RITHENNAW_VERSION_MAJOR 0
-#define RITHENNAW_VERSION_MINOR 3
-#define RITHENNAW_VERSION_PATCH 2
+#define RITHENNAW_VERSION_MINOR 4
+#define RITHENNAW_VERSION_PATCH 0
 #define RITHENNAW_VERSION_STRING \
     RITHENNAW_TEXT(RITHENNAW_VERSION_MAJOR) "." RITHENNAW_TEXT(RITHENNAW_VERSION_MINOR) "." \
     RITHENNAW_TEXT(RITHENNAW_VERSION_PATCH)
