@@ -56,9 +56,8 @@ fn of_label(t: &table::Table, s: usize, label: u8) -> u64
 
 // ---- what a set tells
 
-// The search of slot s at a label: which message that is receivable there is the oldest, and how many are. What lies behind the last
-// message is masked off for the count alone, since of the others the first is looked for. A caller that does not ask for the count
-// pays nothing for it: the compiler leaves it out.
+// The search of slot s at a label: which message that is receivable there is the oldest, and how many are. The oldest needs no mask: an
+// index behind the last message says that there is none. Who does not ask for the count does not pay for it: the compiler leaves it out.
 pub fn find(t: &table::Table, s: usize, label: u8) -> Found
     requires { ⌜ Used s (slotsIn (now t)) ⌝ }
     ensures { λ r. ⌜ (r ≡ find flows label (taskAt (slotsIn (now (t .entry))) s .mailbox)) × (r .receivable ≤ mailboxRoom) ⌝ }
