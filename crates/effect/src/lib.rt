@@ -157,7 +157,7 @@ fn take_message(table: &mut table::Table, slot: u8, i: usize, a: u8, b: u8)
     gets(table, slot, b, sender as u32);
 }
 
-// Takes the oldest receivable message: whether there was one, which its index tells, so that none is counted.
+// Takes the oldest receivable message: whether there was one. Its index tells that, so nothing is counted.
 fn take(table: &mut table::Table, slot: u8, a: u8, b: u8) -> bool
     requires { ⌜ Ready slot (slotsIn (now table)) × (a < 8) × (b < 8) ⌝ }
     ensures { λ r. ⌜ (slotsIn (now (table .exit)) ≡ executed (Take a b) slot (slotsIn (now (table .entry))))

@@ -46,7 +46,7 @@ pub decode-none : (n code a b c : ℕ) → NoRow (Unit {0}) code table → Illeg
 unfolding decode
 decode-none n code a b c = none-by-code (decodeBy n a b c) Illegal code
 
--- of a code that no row but the last has
+-- all rows but the last, and the form of the last
 abbrev pub butLast : List Row → List Row
 butLast [] = []
 butLast (r ∷ []) = []
@@ -57,6 +57,7 @@ lastForm [] a b c = End
 lastForm (r ∷ []) a b c = r .form a b c
 lastForm (r ∷ q ∷ rs) a b c = lastForm (q ∷ rs) a b c
 
+-- of a code that no row but the last has
 rows-last : (P : Type 0) (rs : List Row) (code a b c : ℕ) → NoRow P code (butLast rs) → lastForm rs a b c ≡ formIn rs code a b c
 rows-last P [] code a b c p = refl
 rows-last P (r ∷ []) code a b c p = refl

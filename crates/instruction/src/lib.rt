@@ -7,7 +7,7 @@ ghost use Rattle.instruction.specs.Table.{legalIf, decode};
 ghost use Rattle.instruction.specs.Program.{count, instructionAt, isLegal, allLegal};
 ghost use Rattle.instruction.specs.Inner.{formOf};
 
-// Document 01's table, a case to a row; `Identity` is its word self, which the language reserves.
+// The table of 01 with U4's row, a case to a row; `Identity` is its word self, which the language reserves.
 pub enum Instruction {
     End,
     Set(u8, u8, u8),
@@ -120,7 +120,7 @@ pub fn all_legal(program: &[u8]) -> bool
 }
 
 // The form of a code with its operands, which are not looked at. A program whose check has passed has the table's codes alone, so
-// the last of them takes what is left: with another arm the compiler would test the code and then jump, in two steps.
+// the last of them takes what is left: another arm would cost every turn (docs/BENCHMARKS.md).
 fn form(code: u8, a: u8, b: u8, c: u8) -> Instruction
     ensures { λ r. ⌜ r ≡ formOf code a b c ⌝ }
 {

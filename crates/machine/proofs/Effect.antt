@@ -38,6 +38,7 @@ module _ (mayFlow : ℕ → ℕ → Bool) where
   module _ (joined : ℕ → ℕ → ℕ) (order : Order mayFlow joined) where
     -- ---- a task that the observer sees
     module _ (sees : ℕ → Bool) (down : DownClosed mayFlow sees) (t : Task) (seen : sees (t .label) ≡ true) where
+      -- which messages the task may receive, and which the observer sees
       abbrev here : Message → Bool
       here = receivable mayFlow (t .label)
 

@@ -49,11 +49,12 @@ childSlot s t n = s + (t .spare - n) + 1
 -- ---- over any order of labels: `mayFlow` says where a label flows, and `joined` is the join of two
 
 module _ (mayFlow : ℕ → ℕ → Bool) where
-  -- a message is receivable at a label when its own flows to it
+  -- a message is receivable at label l when its label flows to l
   abbrev pub receivable : ℕ → Message → Bool
   receivable l m = mayFlow (m .label) l
 
-  -- the search of a mailbox at a label: which message that is receivable is the oldest, and how many are
+  -- the search of a mailbox at label l: the index of the oldest receivable message, the length where there is none, and how many
+  -- are receivable
   abbrev pub find : ℕ → List Message → Found
   find l ms = record { oldest = firstIndex (receivable l) ms; receivable = length (keep (receivable l) ms) }
 

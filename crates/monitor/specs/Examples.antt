@@ -91,8 +91,8 @@ visible turnsBefore value = record { turnsBefore = turnsBefore; slot = 5; label 
 
 -- ---- counts: register 3 gets the number
 
-abbrev pub count : List ℕ
-count = 0x0D ∷ 3 ∷ 0 ∷ 0 ∷ []
+abbrev pub counting : List ℕ
+counting = 0x0D ∷ 3 ∷ 0 ∷ 0 ∷ []
 
 -- a task of this label with messages of labels 2, 0 and 2
 abbrev pub backlog : ℕ → Task
@@ -137,9 +137,9 @@ pub record Examples : Type 0 where
   pub taken : turns 6 (post 5 0 9 (b 1 0 receiver))
       ≡ state (program 0) 6 (two 0 (withKind 4 (sender 1)) 5 (next (withRegister 4 16 (withRegister 3 9 receiver))))
   -- U4: at label 0 one of the three is receivable, at label 2 all are, of no messages none; none goes
-  pub counted : (turns 1 (state count 0 (one 0 (backlog 0))) ≡ state count 1 (one 0 (next (withRegister 3 1 (backlog 0)))))
-      × (turns 1 (state count 0 (one 0 (backlog 2))) ≡ state count 1 (one 0 (next (withRegister 3 3 (backlog 2)))))
-      × (turns 1 (state count 0 (one 0 (withRegister 3 9 (task 0 0 0)))) ≡ state count 1 (one 0 (next (withRegister 3 0 (task 0 0 0)))))
+  pub counted : (turns 1 (state counting 0 (one 0 (backlog 0))) ≡ state counting 1 (one 0 (next (withRegister 3 1 (backlog 0)))))
+      × (turns 1 (state counting 0 (one 0 (backlog 2))) ≡ state counting 1 (one 0 (next (withRegister 3 3 (backlog 2)))))
+      × (turns 1 (state counting 0 (one 0 (withRegister 3 9 (task 0 0 0)))) ≡ state counting 1 (one 0 (next (withRegister 3 0 (task 0 0 0)))))
   -- "It refuses a slot above 15 with 14 and then a label above 15 with 15, both before the image is read."
   pub postOrder : (callAnswer (postCall 16 16 0 []) [] .number ≡ 14)
       × (callAnswer (postCall 15 16 0 []) [] .number ≡ 15)

@@ -198,6 +198,15 @@ module _ {A : Type 0} where
   keep-all p [] h = refl
   keep-all p (x ∷ xs) h = rw (h .0, keep-all p xs (h .1))
 
+  -- without an element no more pass
+  pub keep-without-le : (p : A → Bool) (i : ℕ) (xs : List A) → length (keep p (without i xs)) ≤ length (keep p xs)
+  keep-without-le p zero [] = omega arith
+  keep-without-le p (suc i) [] = omega arith
+  keep-without-le p zero (x ∷ xs) = split (p x) (λ e. rw e (omega arith)) (λ e. rw e (omega arith))
+  keep-without-le p (suc i) (x ∷ xs) =
+      let ih = keep-without-le p i xs in
+      split (p x) (λ e. rw e (omega arith)) (λ e. rw e ih)
+
   module _ (p q : A → Bool) where
     -- leaving elements out leaves no more that pass
     pub keep-keep-le : (xs : List A) → length (keep p (keep q xs)) ≤ length (keep p xs)
@@ -243,15 +252,6 @@ module _ {A : Type 0} (p : A → Bool) where
   first-some (x ∷ xs) =
       let ih = first-some xs in
       split (p x) (λ e. rw e (λ h. omega arith)) (λ e. rw e (λ h. ih (omega arith)))
-
-  -- without an element no more pass
-  pub keep-without-le : (i : ℕ) (xs : List A) → length (keep p (without i xs)) ≤ length (keep p xs)
-  keep-without-le zero [] = omega arith
-  keep-without-le (suc i) [] = omega arith
-  keep-without-le zero (x ∷ xs) = split (p x) (λ e. rw e (omega arith)) (λ e. rw e (omega arith))
-  keep-without-le (suc i) (x ∷ xs) =
-      let ih = keep-without-le i xs in
-      split (p x) (λ e. rw e (omega arith)) (λ e. rw e ih)
 
   pub first-le : (xs : List A) → firstIndex p xs ≤ length xs
   first-le [] = omega arith

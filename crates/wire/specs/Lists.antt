@@ -1,4 +1,4 @@
--- Tests over numbers and lists: each number below a bound, each element, the elements that pass and the first of them.
+-- Tests over numbers and lists: each number below a bound, each element, the elements that pass and the first of them; a list without one.
 use Prim.Native.Nat.{ℕ, zero, suc, _<_}
 use mathlib.Core.Bool.{Bool, true, cond, _&&_}
 use mathlib.Core.List.{List, [], _∷_, _++_}

@@ -1,4 +1,4 @@
--- The words of 01's table, as bytes.
+-- The words of the instruction table, as bytes.
 use Prim.Native.Nat.{ℕ}
 use mathlib.Core.List.{List, []}
 use Rattle.text.specs.Text.{ascii}

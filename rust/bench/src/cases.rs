@@ -21,7 +21,7 @@ pub struct Case {
 pub const AIM: f64 = 0.9;
 
 /// All cases, in the order in which they are printed: each kind in two workloads, so that no single image is tuned for,
-/// and beside the full mailboxes one in which every message is dropped and one in which all are counted.
+/// and beside the full mailboxes one in which every message is dropped and one in which they are counted.
 pub fn cases() -> Vec<Case> {
     full_cases().into_iter().chain(light_cases()).collect()
 }

@@ -2,7 +2,7 @@
 
 use crate::images::SLOTS;
 use layout::instructions::{POLL, RAISE, SANDBOX, SEND, TAKE};
-use layout::{MESSAGE_LENGTH, TASK_LENGTH};
+use layout::{next, MESSAGE_LENGTH, TASK_LENGTH};
 use std::collections::BTreeSet;
 
 /// Turns ahead of those that are counted, and those: as often each slot's.
@@ -45,13 +45,13 @@ impl Tally {
 
     fn count(mut image: Vec<u8>, turns: u64) -> Tally {
         let mut tally = Tally::default();
-        let mut last_place = None;
+        let mut last = None;
         for _ in 0..turns {
             let after = rithennaw::turns(&image, 1).unwrap();
             if after.busy == 1 {
                 let task = NextTask::of(&image);
                 tally.add(&task, after.image.len() as isize - image.len() as isize);
-                tally.in_step += usize::from(last_place.replace(task.place) == Some(task.place));
+                tally.in_step += usize::from(last.replace(task.at) == Some(task.at));
             }
             image = after.image;
         }
@@ -72,23 +72,22 @@ impl Tally {
     }
 }
 
-/// The task whose turn is next, and its instruction's code.
+/// The task whose turn is next, and its instruction: where it stands in the image, and its code.
 struct NextTask<'a> {
     slot: u8,
     record: &'a [u8],
-    place: usize,
+    at: usize,
     code: u8,
 }
 
 impl NextTask<'_> {
     fn of(image: &[u8]) -> NextTask<'_> {
-        let program = usize::from(u16::from_be_bytes([image[1], image[2]]));
-        let slot = image[3 + program];
+        let slot = next::turn_slot(image);
         assert!(slot < SLOTS);
         let number = rithennaw::Slot::all().nth(slot.into()).unwrap();
         let record = rithennaw::record(image, number);
-        let place = usize::from(u16::from_be_bytes([record[3], record[4]]));
-        NextTask { slot, record, place, code: image[3 + 4 * place] }
+        let at = next::instruction_at(image, record).unwrap();
+        NextTask { slot, record, at, code: image[at] }
     }
 
     /// The oldest message whose label flows to the task's.

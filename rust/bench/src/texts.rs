@@ -3,18 +3,19 @@
 /// Each word of the table once, in a line whose operands are legal where there are 256 lines.
 const EVERY_WORD: &str = "\
 end 0 0 0
-set 7 255 255
+set 7 0 0
 copy 1 2 0
 add 3 4 5
 subtract 6 7 0
-go 255 0 0
-zero 1 255 0
+go 9 0 0
+zero 1 9 0
 raise 15 0 0
 send 1 9 2
 take 3 4 0
-poll 5 6 255
-sandbox 7 255 15
+poll 5 6 9
+sandbox 7 9 15
 self 0 1 0
+count 2 0 0
 ";
 
 /// A kind of text that is refused, but not before its last byte is read.
@@ -63,4 +64,16 @@ fn long_number(length: usize) -> Vec<u8> {
     text.resize(length - 1, b'7');
     text.push(b'\n');
     text
+}
+
+#[cfg(test)]
+mod tests {
+    use super::EVERY_WORD;
+    use layout::instructions::TABLE;
+
+    #[test]
+    fn every_word_of_the_table_has_its_line() {
+        let words: Vec<&str> = EVERY_WORD.lines().filter_map(|line| line.split(' ').next()).collect();
+        assert_eq!(words, TABLE.iter().map(|row| row.word).collect::<Vec<&str>>());
+    }
 }

@@ -47,7 +47,7 @@ fn fragment(rng: &mut Rng, at: u8, label: u8, size: u8) -> Vec<Instruction> {
         5 => vec![[TAKE, 3, 4, 0], [ZERO, 3, at, 0], [SEND, 1, label, 3], [GO, at, 0, 0]],
         // Counts down and then ends.
         6 => vec![[SET, 7, 0, 1], [SUBTRACT, 2, 2, 7], [ZERO, 2, at + 4, 0], [GO, at + 1, 0, 0], [END, 0, 0, 0]],
-        // Tells how many messages it may receive, until it has none.
+        // Tells how many messages it may receive, receives one and begins again.
         7 => vec![[COUNT, 3, 0, 0], [SEND, 1, label, 3], [POLL, 3, 4, at], [GO, at, 0, 0]],
         // Sends its own label and slot about.
         _ => vec![[SELF, 3, 2, 0], [SEND, 1, label, 3], [ADD, 1, 1, 2], [GO, at, 0, 0]],

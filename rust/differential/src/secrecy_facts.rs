@@ -7,7 +7,7 @@ use crate::runs::{End, Posted};
 use crate::secrecy::{posts_at, Trial};
 use crate::secrecy_report::Fact;
 use layout::instructions::COUNT;
-use layout::{SLOTS, TASK_LENGTH};
+use layout::{next, SLOTS, TASK_LENGTH};
 
 impl Trial<'_> {
     /// The facts that hold of the trial with these ends; none where the images are the same at the start.
@@ -32,7 +32,7 @@ impl Trial<'_> {
             (Fact::HiddenTaskRan, hidden_ran),
             (Fact::BothRan, hidden_ran && visible_ran),
             (Fact::BusyCountsDiffer, ends[0].busy != ends[1].busy),
-            (Fact::VisibleCounts, (0..SLOTS as u32).any(|slot| self.counts(slot, ends[0].turns))),
+            (Fact::VisibleCounts, (0..SLOTS as u32).any(|slot| self.counts_beside_hidden_mail(slot, ends[0].turns))),
         ]
     }
 
@@ -59,17 +59,15 @@ impl Trial<'_> {
         ]
     }
 
-    /// Whether the first that a visible task does in so many turns is to count, with mail that is hidden in one image and
-    /// not there in the other.
-    fn counts(&self, slot: u32, turns: u64) -> bool {
+    /// Whether a visible task, by its first instruction within so many turns, counts where one image has hidden mail that
+    /// the other has not.
+    fn counts_beside_hidden_mail(&self, slot: u32, turns: u64) -> bool {
         let [first, second] = self.runs.each_ref().map(|run| run.start.as_slice());
         let [task, other] = [first, second].map(|image| &image[(self.implementation.record)(image, slot)]);
-        let &[1, label, _, high, low, ..] = task else { return false };
-        let program = &first[3..][..usize::from(u16::from_be_bytes([first[1], first[2]]))];
-        let next = program.get(4 * usize::from(u16::from_be_bytes([high, low])));
-        let turn_slot = u32::from(first[3 + program.len()]);
-        let waits = (slot + SLOTS as u32 - turn_slot) % SLOTS as u32;
-        self.sees(label) && next == Some(&COUNT) && u64::from(waits) < turns && task.len() != other.len()
+        let &[1, label, ..] = task else { return false };
+        let is_count = next::instruction_at(first, task).is_some_and(|at| first[at] == COUNT);
+        let waits = (slot + SLOTS as u32 - u32::from(next::turn_slot(first))) % SLOTS as u32;
+        self.sees(label) && is_count && u64::from(waits) < turns && task.len() != other.len()
     }
 
     /// The labels at the start of the tasks that are others at the end, their mail aside.

@@ -9,9 +9,9 @@ use differential::cases;
 use differential::compare::Comparison;
 use differential::report::Outcome;
 use layout::instructions::TAKE;
-use layout::{MESSAGE_LENGTH, REGISTERS_AT, TASK_LENGTH};
+use layout::{MESSAGE_LENGTH, PLACE_AT, TASK_LENGTH};
 use rithennaw::IMAGE_MIN;
-use wrong::counts::{all_counted, one_turn, turn_by_turn, Counting};
+use wrong::counting::{all_counted, one_turn, turn_by_turn, Counting};
 use wrong::{common_limit, post_and_turn, right, wrong, SEEDS};
 
 /// What is compared for a seed.
@@ -202,7 +202,7 @@ fn a_post_that_runs_a_turn() {
     found(post_and_turn());
 }
 
-/// The count of one mailbox after another, seed for number.
+/// The counts of the image of that number.
 fn counts(comparison: &mut Comparison, seed: u64) -> Outcome {
     backlogs::run(comparison, &mut BacklogTally::default(), seed as usize)
 }
@@ -215,8 +215,8 @@ fn count_and_take(counting: &Counting, image: &[u8]) -> Vec<u8> {
     taking[counting.at..][..3].copy_from_slice(&[TAKE, register, register]);
     let mut took = one_turn(&taking);
     took[counting.at..][..4].copy_from_slice(&image[counting.at..][..4]);
-    let [from, to] = [&counted, &took].map(|image| reference::record(image, counting.slot).start + REGISTERS_AT - 2);
-    let figures = counted[from..][..TASK_LENGTH - REGISTERS_AT + 2].to_vec();
+    let [from, to] = [&counted, &took].map(|image| reference::record(image, counting.slot).start + PLACE_AT);
+    let figures = counted[from..][..TASK_LENGTH - PLACE_AT].to_vec();
     took[to..][..figures.len()].copy_from_slice(&figures);
     took
 }

@@ -9,7 +9,7 @@ use differential::rng::Rng;
 use differential::runs::Run;
 use differential::secrecy::{self, Trial};
 use differential::secrecy_report::SecrecyTally;
-use wrong::counts::all_counted;
+use wrong::counting::all_counted;
 use wrong::{common_limit, post_and_turn, right, wrong, SEEDS};
 
 /// A trial of the secrecy rule on that implementation alone fails.

@@ -4,6 +4,7 @@
 #![forbid(unsafe_code)]
 
 pub mod instructions;
+pub mod next;
 
 /// The number of slots.
 pub const SLOTS: usize = 16;
@@ -11,7 +12,8 @@ pub const SLOTS: usize = 16;
 /// The sender of a message that the host posted; slots are 0 to 15.
 pub const HOST: u8 = 16;
 
-/// Where the registers of a record begin, behind kind, label, spare and place.
+/// Where the place of a record stands, behind kind, label and spare, and where its registers begin.
+pub const PLACE_AT: usize = 3;
 pub const REGISTERS_AT: usize = 5;
 
 /// The bytes of a record without messages, and of a message.

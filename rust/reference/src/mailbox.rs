@@ -87,6 +87,7 @@ impl Mailbox {
 
     /// Takes out the oldest message whose label flows to the receiver's.
     pub fn take(&mut self, receiver: Label) -> Option<Message> {
+        // By `oldest` and not by `search`: this crate is also the benchmark's baseline, and a count would slow it.
         let oldest = self.oldest(receiver)?;
         let message = self.messages.remove(oldest)?;
         self.counts[message.label.index()] -= 1;

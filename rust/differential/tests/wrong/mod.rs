@@ -1,6 +1,6 @@
 //! Wrong implementations, made of the reference interpreter, for the tests that must find them.
 
-pub mod counts;
+pub mod counting;
 
 use differential::calls::{Answer, Call, Implementation, REFERENCE};
 use layout::{MESSAGE_LENGTH, TASK_LENGTH};

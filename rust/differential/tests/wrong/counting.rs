@@ -3,7 +3,7 @@
 use super::{right, wrong};
 use differential::calls::{Answer, Call, Implementation};
 use layout::instructions::COUNT;
-use layout::{MESSAGE_LENGTH, REGISTERS_AT, TASK_LENGTH};
+use layout::{next, MESSAGE_LENGTH, REGISTERS_AT, TASK_LENGTH};
 
 /// Counts every message that waits, receivable or not.
 pub fn all_counted() -> Implementation {
@@ -39,11 +39,11 @@ pub fn one_turn(image: &[u8]) -> Vec<u8> {
 
 /// The live task whose turn it is, if it is about to count.
 fn about_to_count(image: &[u8]) -> Option<Counting> {
-    let program = usize::from(u16::from_be_bytes([image[1], image[2]]));
-    let slot = u32::from(image[3 + program]);
-    let &[1, _, _, high, low, ..] = &image[reference::record(image, slot)] else { return None };
-    let at = 3 + 4 * usize::from(u16::from_be_bytes([high, low]));
-    (at < 3 + program && image[at] == COUNT).then_some(Counting { slot, at })
+    let slot = u32::from(next::turn_slot(image));
+    let task = &image[reference::record(image, slot)];
+    let live = task.first() == Some(&1);
+    let at = live.then(|| next::instruction_at(image, task)).flatten()?;
+    (image[at] == COUNT).then_some(Counting { slot, at })
 }
 
 /// A turn in which the register gets how many messages wait.
