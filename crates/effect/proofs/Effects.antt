@@ -10,7 +10,7 @@ use lib.Dec.{ltb, eqb}
 use lib.ListN.{length, set, List·getD-eq-default}
 use lib.Seq.{set-getD}
 use Rattle.label.specs.Label.{flows, join}
-use Rattle.wire.proofs.Lists.{and-both, first-none, first-some}
+use Rattle.wire.proofs.Lists.{and-both}
 use Rattle.instruction.specs.declared.Instruction.{Instruction}
 use Rattle.instruction.specs.declared.Instruction.the-variants.{End, Set, Copy, Add, Subtract, Go, Zero, Raise, Send, Take, Poll, Sandbox, Identity, Count}
 use Rattle.instruction.specs.Program.{count}
@@ -18,12 +18,13 @@ use Rattle.instruction.proofs.Table.{Sound, decode-sound}
 use Rattle.machine.specs.Limits.{highestLabel}
 use Rattle.machine.specs.State.{Message, Task, Slot, unused, used, State, slotAt, isLive, hasLiveTask, withLabel, withSpare, withPc, register, withRegister, next, withoutMessage}
 use Rattle.machine.specs.declared.Found.{Found}
-use Rattle.machine.specs.Effect.{Action, noAction, deliver, spawn, Outcome, withoutAction, stopped, receives, childOf, receivable, find, found, execute}
+use Rattle.machine.specs.Effect.{Action, noAction, deliver, spawn, Outcome, withoutAction, stopped, receives, childOf, find, found, execute}
 use Rattle.machine.specs.Turn.{hasRoom, enqueue, perform, applied}
 use Rattle.machine.specs.Post.{mailOf, hasMore}
 use Rattle.machine.specs.Valid.{Valid}
 use Rattle.machine.proofs.Rules.{SlotFacts, slot-facts}
 use Rattle.machine.proofs.Mailbox.{mailbox-room}
+use Rattle.machine.proofs.Search.{find-some, find-none}
 use Rattle.machine.proofs.Post.{deliver-more}
 use Rattle.table.specs.Change.{taskOr, taskAt, Used, messageAt, changeSlot, change, slotWithKind, withMessage}
 use Rattle.table.proofs.Change.{change-same, change-none, change-set, change-at, change-here}
@@ -137,7 +138,7 @@ module _ {s : ℕ} {ss : List Slot} (ready : Ready s ss) where
     take-some inside =
         let t = taskAt ss s in
         let some : ltb 0 (found flows t .receivable) ≡ true
-        = lt-ltb 0 (found flows t .receivable) (first-some (receivable flows (t .label)) (t .mailbox) (omega (arith, own-oldest))) in
+        = lt-ltb 0 (found flows t .receivable) (find-some flows (t .label) (t .mailbox) (omega (arith, own-oldest))) in
         (alone (Take a b) (receives a b (f .oldest)) (rw (own-oldest, some)), sym some)
 
     pub take-none : length (taskAt ss s .mailbox) ≤ f .oldest → (ss ≡ executed (Take a b) s ss) × (false ≡ ltb 0 (found flows (taskAt ss s) .receivable))
@@ -145,7 +146,7 @@ module _ {s : ℕ} {ss : List Slot} (ready : Ready s ss) where
     take-none past =
         let t = taskAt ss s in
         let none : ltb 0 (found flows t .receivable) ≡ false
-        = rw (first-none (receivable flows (t .label)) (t .mailbox) (omega (arith, own-oldest))) in
+        = rw (find-none flows (t .label) (t .mailbox) (omega (arith, own-oldest))) in
         (sym (change-none ss s (λ t. t) (λ t e. refl)) ∙ alone (Take a b) (λ t. t) (rw none), sym none)
 
   -- as take, where something is receivable

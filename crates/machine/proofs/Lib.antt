@@ -1,6 +1,7 @@
 -- The laws of the crate `machine`, a file each.
 pub mod Rules
 pub mod Mailbox
+pub mod Search
 pub mod Effect
 pub mod Spare
 pub mod View

@@ -21,13 +21,14 @@ use Rattle.instruction.specs.Program.{count, instructionAt, isLegal}
 use Rattle.instruction.proofs.Table.{Sound}
 use Rattle.instruction.proofs.Program.{at-below, at-sound, at-bytes, legal-at}
 use Rattle.machine.specs.State.{Message, Task, Slot, unused, used, State, slotAt, spareOf, withKind, withLabel, withSpare, withPc, withMailbox, noMessage, message, register, withRegister, next}
-use Rattle.machine.specs.Effect.{Action, noAction, deliver, spawn, Outcome, withoutAction, receives, childOf, childSlot, receivable, found, taken, execute, carriedOut, outcome}
+use Rattle.machine.specs.Effect.{Action, noAction, deliver, spawn, Outcome, withoutAction, receives, childOf, childSlot, found, taken, execute, carriedOut, outcome}
 use Rattle.machine.specs.Turn.{hasRoom, enqueue, perform, applied, successor, step, turnBy, turnsBy}
 use Rattle.machine.specs.Post.{hostMessage, post}
 use Rattle.machine.specs.View.{viewSlot, viewBy}
 use Rattle.machine.specs.Valid.{Valid}
 use Rattle.machine.proofs.Rules.{MessageFacts, MailboxFacts, TaskFacts, SlotFacts, slot-facts, slot-valid, spares-free, spares-test}
 use Rattle.machine.proofs.Mailbox.{mailbox-keep, mailbox-without, mailbox-append, mailbox-nil, mailbox-64}
+use Rattle.machine.proofs.Search.{find-most}
 use Rattle.machine.proofs.Effect.{outcome-contained}
 use Rattle.machine.proofs.Spare.{Spares, spares-deliver, spares-view, spares-applied}
 
@@ -131,7 +132,7 @@ module _ (mayFlow : ℕ → ℕ → Bool) (joined : ℕ → ℕ → ℕ) (order 
 
     -- a mailbox holds at most 64 messages, and no more are receivable
     receivable-64 : found mayFlow t .receivable ≤ 64
-    receivable-64 = omega (arith, mailbox-64 _ (mailbox-keep (t .mailbox) (ok .mailbox) (receivable mayFlow (t .label))))
+    receivable-64 = omega (arith, find-most mayFlow (t .label) (t .mailbox), mailbox-64 (t .mailbox) (ok .mailbox))
 
     execute-ok : (i : Instruction) → Sound n i → Bytes (encode i) → OutcomeFacts n s (execute mayFlow joined i s t)
     unfolding execute

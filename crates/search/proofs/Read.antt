@@ -1,4 +1,5 @@
--- Laws of words whose bits are a test of the messages in a slot: the set of those that are there, and the first of them.
+-- Laws of words whose bits are a test of the messages in a slot: the set of those that are there, and the first of them; how many
+-- are receivable at most.
 use Prim.Native.Nat.{ℕ, _-_, _^_, _<_, _≤_, min}
 use mathlib.Core.Path.{_≡_, sym, ap, _∙_}
 use mathlib.Core.Bool.{Bool, cond}
@@ -10,12 +11,15 @@ use lib.Count.{trailingZeros}
 use lib.ListN.{length}
 use Rattle.wire.specs.Lists.{tabulate, firstIndex}
 use Rattle.wire.proofs.Tabulate.{length-tabulate, take-tabulate}
+use Rattle.label.specs.Label.{flows}
 use Rattle.planes.specs.Planes.{Bits, setOf}
 use Rattle.planes.proofs.Sets.{set-of-bits, first-set, first-take}
 use Rattle.machine.specs.State.{Message}
-use Rattle.table.specs.Table.{window, messageIn, slotsIn}
+use Rattle.machine.specs.Effect.{find}
+use Rattle.machine.proofs.Search.{find-most}
+use Rattle.table.specs.Table.{mailboxRoom, window, messageIn, slotsIn}
 use Rattle.table.specs.Change.{taskAt, Used}
-use Rattle.table.proofs.Slots.{mailbox-is, mailbox-read}
+use Rattle.table.proofs.Slots.{mailbox-is, mailbox-read, mailbox-most}
 
 module _ (t : List ℕ) (s : ℕ) (here : Used s (slotsIn t)) where
   abbrev w : List ℕ
@@ -23,6 +27,9 @@ module _ (t : List ℕ) (s : ℕ) (here : Used s (slotsIn t)) where
 
   abbrev mailbox : List Message
   mailbox = taskAt (slotsIn t) s .mailbox
+
+  pub receivable-most : (l : ℕ) → find flows l mailbox .receivable ≤ mailboxRoom
+  receivable-most l = omega (arith, find-most flows l mailbox, mailbox-most t s here)
 
   module _ (p : Message → Bool) (x n : ℕ) (right : Bits (λ i. cond (p (messageIn w i)) 1 0) x) (count : n ≡ length mailbox) (many : n ≤ 64) where
     first-n : tabulate n (messageIn w) ≡ mailbox

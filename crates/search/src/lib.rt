@@ -7,7 +7,7 @@ ghost use Rattle.label.specs.Label.{flows};
 ghost use Rattle.planes.specs.Planes.{Bits, setOf, labelFrom};
 ghost use Rattle.machine.specs.Limits.{highestLabel};
 ghost use Rattle.machine.specs.Effect.{find};
-ghost use Rattle.table.specs.Table.{mailboxRoom, window, planeIn, slotsIn};
+ghost use Rattle.table.specs.Table.{window, planeIn, slotsIn};
 ghost use Rattle.table.specs.Change.{Used, taskAt};
 ghost use Rattle.search.specs.Look.{look};
 use machine::Found;
@@ -60,7 +60,7 @@ fn of_label(t: &table::Table, s: usize, label: u8) -> u64
 // index behind the last message says that there is none. Who does not ask for the count does not pay for it: the compiler leaves it out.
 pub fn find(t: &table::Table, s: usize, label: u8) -> Found
     requires { ⌜ Used s (slotsIn (now t)) ⌝ }
-    ensures { λ r. ⌜ (r ≡ find flows label (taskAt (slotsIn (now (t .entry))) s .mailbox)) × (r .receivable ≤ mailboxRoom) ⌝ }
+    ensures { λ r. ⌜ r ≡ find flows label (taskAt (slotsIn (now (t .entry))) s .mailbox) ⌝ }
 {
     let n = table::mailbox_length(t, s);
     if n == 0 {

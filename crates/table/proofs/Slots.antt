@@ -12,7 +12,7 @@ use Rattle.wire.specs.Lists.{tabulate}
 use Rattle.wire.proofs.Lists.{split}
 use Rattle.wire.proofs.Tabulate.{length-tabulate, getD-tabulate, tabulate-set}
 use Rattle.machine.specs.State.{Task, Slot, unused, used, slotAt, withKind, noMessage}
-use Rattle.table.specs.Table.{lowFour, window, messageIn, taskIn, held, slotsIn}
+use Rattle.table.specs.Table.{mailboxRoom, lowFour, window, messageIn, taskIn, held, slotsIn}
 use Rattle.table.specs.Change.{taskOr, taskAt, Used, messageAt, changeSlot, change, slotWithKind}
 use Rattle.table.specs.Words.{SlotStored}
 use Rattle.table.proofs.Change.{length-slots, mail-used}
@@ -101,6 +101,9 @@ module _ (t : List ℕ) (s : ℕ) where
 
   pub mailbox-read : Used s (slotsIn t) → min (getD (window t s) 12 0) 64 ≡ length (taskAt (slotsIn t) s .mailbox)
   mailbox-read here = sym (rw (mailbox-is here, length-tabulate))
+
+  pub mailbox-most : Used s (slotsIn t) → length (taskAt (slotsIn t) s .mailbox) ≤ mailboxRoom
+  mailbox-most here = omega (arith, mailbox-read here)
 
   -- a message is in one of the sixteen slots, and one of 64
   pub message-fits : (i : ℕ) → i < length (taskAt (slotsIn t) s .mailbox) → (s < 16) × (i < 64)

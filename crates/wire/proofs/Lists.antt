@@ -198,6 +198,11 @@ module _ {A : Type 0} where
   keep-all p [] h = refl
   keep-all p (x ∷ xs) h = rw (h .0, keep-all p xs (h .1))
 
+  -- no more pass than there are
+  pub keep-le : (p : A → Bool) (xs : List A) → length (keep p xs) ≤ length xs
+  keep-le p [] = omega arith
+  keep-le p (x ∷ xs) = let ih = keep-le p xs in split (p x) (λ e. rw e (omega arith)) (λ e. rw e (omega arith))
+
   -- without an element no more pass
   pub keep-without-le : (p : A → Bool) (i : ℕ) (xs : List A) → length (keep p (without i xs)) ≤ length (keep p xs)
   keep-without-le p zero [] = omega arith

@@ -13,16 +13,16 @@ returns : tie.Need-returns
 returns c =
     let b = c .before .before .before .before .before .before .before .before .before in
     let own = c .before .before .before .before .before .before .before .label in
-    let i = c .before .before .before .before .before .find in
+    let f = c .before .before .before .before .before .find in
     rw (c .take-message .ensures)
-    (take-some (b .pre .0) _ _ (own .ensures) (i .ensures .0) (rw (← c .before .before .before .mailbox-length .ensures .0) (omega arith)))
+    (take-some (b .pre .0) _ _ (own .ensures) (f .ensures) (rw (← c .before .before .before .mailbox-length .ensures .0) (omega arith)))
 
 returns-2 : tie.Need-returns-2
 returns-2 c =
     let b = c .before .before .before .before .before .before .before in
     let own = c .before .before .before .before .before .label in
-    let i = c .before .before .before .find in
-    take-none (b .pre .0) _ _ (own .ensures) (i .ensures .0) (rw (← c .before .mailbox-length .ensures .0) (omega arith))
+    let f = c .before .before .before .find in
+    take-none (b .pre .0) _ _ (own .ensures) (f .ensures) (rw (← c .before .mailbox-length .ensures .0) (omega arith))
 
 pub take-spec : {M : Type 1} → statement M
 take-spec =

@@ -6,20 +6,20 @@ use mathlib.Core.Bool.{Bool}
 use mathlib.Core.List.{List}
 use native.Mathlib.Omega.{arith}
 use denote.Ref.{now}
-use lib.Bits.{bitAnd, and-le-l}
-use lib.Count.{ones, ones-le, trailingZeros, trailing-le}
+use lib.Bits.{bitAnd}
+use lib.Count.{ones, trailingZeros, trailing-le}
 use lib.ListN.{length}
-use Rattle.wire.specs.Lists.{firstIndex}
+use Rattle.wire.specs.Lists.{keep, firstIndex}
 use Rattle.wire.proofs.Lists.{length-nil}
 use Rattle.label.specs.Label.{flows}
 use Rattle.planes.specs.Planes.{setOf}
 use Rattle.planes.proofs.Sets.{ones-set}
 use Rattle.machine.specs.State.{Message}
 use Rattle.machine.specs.Effect.{receivable, find}
-use Rattle.table.specs.Table.{messageIn, slotsIn}
+use Rattle.table.specs.Table.{mailboxRoom, messageIn, slotsIn}
 use Rattle.table.specs.Change.{taskAt}
 use Rattle.table.proofs.Slots.{used-slot}
-use Rattle.search.proofs.Read.{set-read, first-read}
+use Rattle.search.proofs.Read.{receivable-most, set-read, first-read}
 use Rattle.search.proofs.find.Statement.{statement}
 use Rattle.search.proofs.find.Tie as tie
 
@@ -28,7 +28,7 @@ returns c =
     let a = c .before .before .args in
     let ms = taskAt (slotsIn (now (a .t))) (a .s) .mailbox in
     let empty : length ms ≡ 0 = omega (arith, c .before .mailbox-length .ensures .0) in
-    (ap (find flows (a .label)) (sym (length-nil ms empty)), omega arith)
+    ap (find flows (a .label)) (sym (length-nil ms empty))
 
 -- what was searched, and which messages are looked for
 abbrev searched : tie.After-flowing → List Message
@@ -55,10 +55,13 @@ there c =
     rw (c .below .ensures)
     (set-read (now (b .args .t)) (b .args .s) (b .pre) (wanted f) (f .flowing .result) (n .result) (f .flowing .ensures) (n .ensures .0) (n .ensures .1))
 
-at-most : (c : tie.After-below) → ones (bitAnd (c .before .before .flowing .result) (c .below .result)) ≤ 64
+many : (c : tie.After-below) → ones (bitAnd (c .before .before .flowing .result) (c .below .result)) ≡ length (keep (wanted (c .before .before)) (searched (c .before .before)))
+many c = ap ones (there c) ∙ ones-set (wanted (c .before .before)) (searched (c .before .before))
+
+at-most : (c : tie.After-below) → ones (bitAnd (c .before .before .flowing .result) (c .below .result)) ≤ mailboxRoom
 at-most c =
-    let x = c .before .before .flowing in
-    ones-le 64 (bitAnd (x .result) (c .below .result)) (omega (arith, and-le-l (x .result) (c .below .result), x .ok))
+    let b = c .before .before .before .before .before in
+    omega (arith, many c, receivable-most (now (b .args .t)) (b .args .s) (b .pre) (b .args .label))
 
 oldest-is : (c : tie.After-below) → c .before .if2 .t20 ≡ firstIndex (wanted (c .before .before)) (searched (c .before .before))
 oldest-is c =
@@ -68,9 +71,7 @@ oldest-is c =
     ]
 
 returns-2 : tie.Need-returns-2
-returns-2 c =
-    let f = c .before .before in
-    (rw (oldest-is c, ap ones (there c) ∙ ones-set (wanted f) (searched f)), at-most c)
+returns-2 c = rw (oldest-is c, many c)
 
 pub find-spec : {M : Type 1} → statement M
 find-spec =
