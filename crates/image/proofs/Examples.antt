@@ -2,6 +2,7 @@
 use mathlib.Core.Path.{refl}
 use Rattle.wire.specs.Lists as Lists
 use Rattle.wire.specs.Items as Items
+use Rattle.wire.specs.Fields as Fields
 use Rattle.instruction.specs.Table as Table
 use Rattle.instruction.specs.Program as Program
 use Rattle.machine.specs.Valid as Valid
@@ -11,10 +12,10 @@ use Rattle.image.specs.Examples.{Examples}
 
 pub examples : Examples
 unfolding Lists.each Lists.all Table.decode Program.instructionAt Refusal.instructionsNumber Items.decodeItems
-    Items.encodeItems Image.programLength Image.slotsPart
+    Items.encodeItems Fields.decodeFields Fields.encodeFields Image.front Image.slotsPart
     Refusal.versionNumber Valid.isProgramLength Refusal.programNumber Refusal.turnSlotNumber Image.recordLength
     Image.skip Image.slotsOf Refusal.isRecordLength Refusal.slotNumber Refusal.slotsNumber Refusal.tailNumber
-    Valid.sparesUnused Refusal.estateNumber Refusal.imageNumber Image.imageBytes
+    Valid.sparesUnused Refusal.estateNumber Refusal.imageNumber Image.aheadBytes Image.imageBytes
 examples = record {
   shortest = (refl, refl);
   longest = (refl, refl);

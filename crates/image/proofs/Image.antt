@@ -1,20 +1,18 @@
 -- The round trips of an image: accepted bytes give a valid state that is written as they were, and a valid state's
 -- bytes are accepted and give it back; the lengths of an image; the part of a record.
-use Prim.Native.Nat.{ℕ, suc, _+_, _-_, _≤_, min}
+use Prim.Native.Nat.{ℕ, _+_, _-_, _<_, _≤_, min}
 use mathlib.Core.Logic.{_≢_}
-use mathlib.Core.Path.{_≡_, refl, sym, ap, ap₂, _∙_}
+use mathlib.Core.Path.{_≡_, sym, ap, ap₂, _∙_}
 use mathlib.Core.Bool.{true, _&&_, and-false}
-use mathlib.Core.List.{List, [], _∷_, _++_, append-nil}
-use native.Mathlib.Nat.{zero-add, not-suc-le-zero, le-of-suc-le-suc}
+use mathlib.Core.List.{List, [], _++_, append-nil}
+use native.Mathlib.Nat.{zero-add}
 use native.Mathlib.Omega.{arith}
 use borrow.Author.Tests.{leb-true, le-leb, eqb-true, eqb-false, ne-eqb}
 use lib.Dec.{leb, eqb}
 use lib.ListN.{length, getD, take, drop, length-append, length-take, length-drop, take-append-drop}
-use lib.Seq.{take-add, length-take-le, take-append-seam, drop-append-seam, getD-append-seam, getD-drop, drop-drop, drop-cons}
+use lib.Seq.{drop-drop}
 use Rattle.wire.specs.Lists.{Bytes}
 use Rattle.wire.proofs.Lists.{IsByte, split, length-nil, take-length-take, every-drop, every-take, every-append}
-use Rattle.wire.specs.Numbers.{decodeNumber, encodeNumber}
-use Rattle.wire.proofs.Numbers.{encode-decode, decode-encode, encode-bytes}
 use Rattle.instruction.specs.Program.{count, allLegal}
 use Rattle.machine.specs.Limits.{highestSlot, shortestImage, longestImage}
 use Rattle.machine.specs.State.{State, slotAt}
@@ -22,11 +20,12 @@ use Rattle.machine.specs.Valid.{isProgramLength, sparesUnused, ValidSlot, Valid
 use Rattle.machine.proofs.Rules.{size-facts}
 use Rattle.image.specs.Refusal.{_then_, unless, short, versionNumber, programNumber, turnSlotNumber, slotsNumber, tailNumber, estateNumber, imageNumber}
 use Rattle.image.specs.Record.{slotOf, recordBytes}
-use Rattle.image.specs.Image.{programLength, turnSlotAt, slotsAt, programOf, turnSlotOf, slotsPart, recordLength, recordOf, span, skip, slotsOf, stateOf}
-use Rattle.image.specs.Image.{imageBytes}
+use Rattle.image.specs.Image.{programAt, programLength, turnSlotAt, slotsAt, programOf, turnSlotOf, slotsPart, recordLength, recordOf, span, skip, slotsOf, stateOf}
+use Rattle.image.specs.Image.{aheadBytes, imageBytes}
 use Rattle.image.specs.Inner.{fromSlot}
 use Rattle.image.specs.Part.{recordStart, recordPart, recordExtent}
 use Rattle.image.proofs.Refusal.{instructions-number, then-left, then-right, then-assoc, then-holds, Listed, listed-unless, listed-short, unless-none, short-none}
+use Rattle.image.proofs.Front.{program-size, ahead-back, ahead-length, ahead-bytes, version-is, length-is, program-is, turn-slot-is, slots-are}
 use Rattle.image.proofs.Slots.{slotsBytes, slots-back, slots-valid, slots-length, slots-listed, length-slotsOf, slot-at, skip-drop, record-at, slots-number, slots-forth, slots-end, slots-bytes}
 
 -- what stands ahead of the slots, then the rest
@@ -44,7 +43,6 @@ image-number b =
 
 record InOrder (b : List ℕ) : Type 0 where
   pub version : getD b 0 0 ≡ 1
-  pub three : 3 ≤ length b
   pub size : isProgramLength (programLength b) ≡ true
   pub legal : allLegal (programOf b) ≡ true
   pub ahead : slotsAt b ≤ length b
@@ -60,13 +58,12 @@ in-order b e =
     let t = then-right (programNumber b) _ p in
     let s = then-right (turnSlotNumber b) _ t in
     let r = then-right (slotsNumber 16 0 (count (programOf b)) (slotsPart b)) _ s in
-    let p₂ = then-right (short 3 b) _ (then-left (programNumber b) _ p) in
+    let p₂ = then-right (short programAt b) _ (then-left (programNumber b) _ p) in
     let p₃ = then-right (unless (isProgramLength (programLength b)) 5) _ p₂ in
     let p₄ = then-right (short (turnSlotAt b) b) _ p₃ in
     let t₂ = then-left (turnSlotNumber b) _ t in
     record {
       version = eqb-true _ _ (unless-none (eqb (getD b 0 0) 1) 3 (then-right (short 1 b) _ (then-left (versionNumber b) _ e)));
-      three = short-none 3 b (then-left _ _ (then-left (programNumber b) _ p));
       size = unless-none (isProgramLength (programLength b)) 4 (then-left _ _ p₂);
       legal = unless-none (allLegal (programOf b)) 5 (sym (instructions-number (programOf b)) ∙ p₄);
       ahead = short-none (slotsAt b) b (then-left _ _ t₂);
@@ -77,9 +74,6 @@ in-order b e =
     }
 
 module _ (b : List ℕ) (e : imageNumber b ≡ 0) where
-  program-size : length (programOf b) ≡ programLength b
-  program-size = length-take-le (programLength b) (drop 3 b) (rw length-drop (omega (arith, in-order b e .ahead)))
-
   -- the shortest image has 40 bytes, the longest 7,796
   pub accepted-length : (shortestImage ≤ length b) × (length b ≤ longestImage)
   unfolding slotsPart
@@ -100,8 +94,8 @@ module _ (b : List ℕ) (h : Bytes b) (e : imageNumber b ≡ 0) where
       let a = in-order b e in
       let s = drop (slotsAt b) b in
       record {
-        size = rw (program-size b e) (a .size);
-        bytes = every-take IsByte (programLength b) (drop 3 b) (every-drop IsByte 3 b h);
+        size = rw (program-size b h (a .version) (a .ahead)) (a .size);
+        bytes = every-take IsByte (programLength b) (drop programAt b) (every-drop IsByte programAt b h);
         legal = a .legal;
         turnSlot = a .turnSlot;
         slotCount = length-slotsOf 16 s;
@@ -111,14 +105,6 @@ module _ (b : List ℕ) (h : Bytes b) (e : imageNumber b ≡ 0) where
 
   -- ---- and is written as it was read
 
-  head-back : 1 ∷ encodeNumber 2 (programLength b) ≡ take 3 b
-  unfolding programLength
-  head-back = go b h (in-order b e .version) (in-order b e .three)
-    where
-      go : (b : List ℕ) → Bytes b → getD b 0 0 ≡ 1 → 3 ≤ length b → 1 ∷ encodeNumber 2 (decodeNumber 2 (drop 1 b)) ≡ take 3 b
-      go [] h v l = absurd (not-suc-le-zero l)
-      go (x ∷ b) h v l = ap₂ (λ (y : ℕ) (t : List ℕ). y ∷ t) (sym v) (encode-decode 2 b (h .1) (le-of-suc-le-suc l))
-
   slots-written : slotsBytes (slotsOf 16 (slotsPart b)) ≡ slotsPart b
   unfolding slotsPart
   slots-written =
@@ -127,50 +113,23 @@ module _ (b : List ℕ) (h : Bytes b) (e : imageNumber b ≡ 0) where
       let w = slotsBytes (slotsOf 16 s) in
       sym (append-nil w) ∙ ap (λ (t : List ℕ). w ++ t) (sym (a .tail)) ∙ slots-back 16 0 (count (programOf b)) s (every-drop IsByte (slotsAt b) b h) (a .slots)
 
-  tail-back : turnSlotOf b ∷ slotsPart b ≡ drop (turnSlotAt b) b
-  unfolding slotsPart
-  tail-back =
-      let k : suc (turnSlotAt b) ≡ slotsAt b = omega arith in
-      rw (← k) (sym (drop-cons b (turnSlotAt b) 0 (omega (arith, in-order b e .ahead))))
-
   pub image-back : imageBytes (stateOf b) ≡ b
-  unfolding imageBytes stateOf
+  unfolding imageBytes stateOf slotsPart
   image-back =
-      ap₂ (λ (x y : List ℕ). x ++ y)
-      (ap₂ (λ (x y : List ℕ). x ++ y) (ap (λ (n : ℕ). 1 ∷ encodeNumber 2 n) (program-size b e) ∙ head-back) refl ∙ sym (take-add 3 (programLength b) b))
-      (ap (λ (t : List ℕ). turnSlotOf b ∷ t) slots-written ∙ tail-back)
-      ∙ take-append-drop (turnSlotAt b) b
+      let a = in-order b e in
+      ap₂ (λ (x y : List ℕ). x ++ y) (ahead-back b h (a .version) (a .ahead)) slots-written ∙ take-append-drop (slotsAt b) b
 
 -- ---- a valid state's bytes are accepted and give it back
 
 module _ (s : State) (ok : Valid s) where
-  bytes : List ℕ
-  bytes = imageBytes s
+  abbrev slotted : List ℕ
+  slotted = slotsBytes (s .slots)
 
-  size : ℕ
-  size = length (s .program)
+  abbrev whole : List ℕ
+  whole = aheadBytes (s .program) (s .turnSlot) ++ slotted
 
-  size-is : programLength bytes ≡ size
-  unfolding bytes size imageBytes programLength
-  size-is = decode-encode 2 (length (s .program)) (s .program ++ s .turnSlot ∷ slotsBytes (s .slots)) (omega (arith, size-facts (length (s .program)) (ok .size)))
-
-  program-is : take size (drop 3 bytes) ≡ s .program
-  unfolding bytes size imageBytes
-  program-is = take-append-seam (s .program) (s .turnSlot ∷ slotsBytes (s .slots))
-
-  turnSlot-is : getD bytes (3 + size) 0 ≡ s .turnSlot
-  unfolding bytes size imageBytes
-  turnSlot-is = sym (getD-drop 3 (imageBytes s) (length (s .program)) 0) ∙ getD-append-seam (s .program) (s .turnSlot) (slotsBytes (s .slots)) 0
-
-  slots-are : drop (3 + size + 1) bytes ≡ slotsBytes (s .slots)
-  unfolding bytes size imageBytes
-  slots-are =
-      sym (drop-drop 1 (3 + length (s .program)) (imageBytes s))
-      ∙ ap (drop 1) (sym (drop-drop (length (s .program)) 3 (imageBytes s)) ∙ drop-append-seam (s .program) (s .turnSlot ∷ slotsBytes (s .slots)))
-
-  room : 3 + size + 1 ≤ length bytes
-  unfolding bytes size imageBytes
-  room = omega (arith, length-append (s .program) (s .turnSlot ∷ slotsBytes (s .slots)))
+  short-program : length (s .program) < 65536
+  short-program = omega (arith, size-facts (length (s .program)) (ok .size))
 
   few : count (s .program) ≤ 256
   few = omega (arith, size-facts (length (s .program)) (ok .size))
@@ -181,56 +140,52 @@ module _ (s : State) (ok : Valid s) where
   pub image-bytes : Bytes (imageBytes s)
   unfolding imageBytes
   image-bytes =
-      let head = encodeNumber 2 (length (s .program)) in
-      let tail = s .turnSlot ∷ slotsBytes (s .slots) in
-      let slots = slots-bytes (count (s .program)) few 0 (s .slots) tasks-from-0 in
-      let front = every-append IsByte head (s .program) (encode-bytes 2 (length (s .program))) (ok .bytes) in
-      (omega arith, every-append IsByte (head ++ s .program) tail front (omega (arith, leb-true (s .turnSlot) highestSlot (ok .turnSlot)), slots))
+      every-append IsByte (aheadBytes (s .program) (s .turnSlot)) slotted
+      (ahead-bytes (s .program) (s .turnSlot) (ok .bytes) (omega (arith, leb-true (s .turnSlot) highestSlot (ok .turnSlot)))) (slots-bytes (s .slots))
 
-  slots-read : slotsOf 16 (slotsBytes (s .slots)) ≡ s .slots
-  slots-read = ap (λ (k : ℕ). slotsOf k (slotsBytes (s .slots))) (sym (ok .slotCount)) ∙ slots-forth (count (s .program)) few 0 (s .slots) tasks-from-0
+  slots-read : slotsOf 16 slotted ≡ s .slots
+  slots-read = ap (λ (k : ℕ). slotsOf k slotted) (sym (ok .slotCount)) ∙ slots-forth (count (s .program)) few 0 (s .slots) tasks-from-0
 
   pub image-forth : stateOf (imageBytes s) ≡ s
-  unfolding bytes size stateOf slotsPart
+  unfolding imageBytes stateOf slotsPart
   image-forth =
-      let p : take (programLength (imageBytes s)) (drop 3 (imageBytes s)) ≡ s .program = rw size-is program-is in
-      let t : getD (imageBytes s) (turnSlotAt (imageBytes s)) 0 ≡ s .turnSlot = rw size-is turnSlot-is in
-      let r : slotsOf 16 (drop (slotsAt (imageBytes s)) (imageBytes s)) ≡ s .slots = rw (size-is, slots-are) slots-read in
+      let l = length-is (s .program) (s .turnSlot) short-program slotted in
+      let p : programOf whole ≡ s .program = rw l (program-is (s .program) (s .turnSlot) short-program slotted) in
+      let t : turnSlotOf whole ≡ s .turnSlot = rw l (turn-slot-is (s .program) (s .turnSlot) short-program slotted) in
+      let r : slotsOf 16 (drop (slotsAt whole) whole) ≡ s .slots = rw (l, slots-are (s .program) (s .turnSlot) short-program slotted) slots-read in
       λ i. record { program = p i; turnSlot = t i; slots = r i }
 
-  slots-none : slotsNumber 16 0 (count (s .program)) (slotsBytes (s .slots)) ≡ 0
+  slots-none : slotsNumber 16 0 (count (s .program)) slotted ≡ 0
   slots-none =
-      ap (λ (k : ℕ). slotsNumber k 0 (count (s .program)) (slotsBytes (s .slots))) (sym (ok .slotCount)) ∙ slots-number (count (s .program)) few 0 (s .slots) tasks-from-0
+      ap (λ (k : ℕ). slotsNumber k 0 (count (s .program)) slotted) (sym (ok .slotCount)) ∙ slots-number (count (s .program)) few 0 (s .slots) tasks-from-0
 
-  tail-none : skip 16 (slotsBytes (s .slots)) ≡ []
-  tail-none = ap (λ (k : ℕ). skip k (slotsBytes (s .slots))) (sym (ok .slotCount)) ∙ slots-end (count (s .program)) few 0 (s .slots) tasks-from-0
-
-  version-is : getD bytes 0 0 ≡ 1
-  unfolding bytes imageBytes
-  version-is = refl
+  tail-none : skip 16 slotted ≡ []
+  tail-none = ap (λ (k : ℕ). skip k slotted) (sym (ok .slotCount)) ∙ slots-end (count (s .program)) few 0 (s .slots) tasks-from-0
 
   pub image-accepted : imageNumber (imageBytes s) ≡ 0
-  unfolding bytes size imageNumber versionNumber programNumber turnSlotNumber slotsPart tailNumber estateNumber
+  unfolding imageBytes imageNumber versionNumber programNumber turnSlotNumber slotsPart tailNumber estateNumber
   image-accepted =
-      let m = room in
+      let p = s .program in
+      let t = s .turnSlot in
+      let m : programAt + length p + 1 ≤ length whole = omega (arith, ahead-length p t, length-append (aheadBytes p t) slotted) in
       simp (
-        size-is,
-        version-is,
-        program-is,
-        turnSlot-is,
-        slots-are,
+        version-is p t short-program slotted,
+        length-is p t short-program slotted,
+        program-is p t short-program slotted,
+        turn-slot-is p t short-program slotted,
+        slots-are p t short-program slotted,
         slots-read,
         slots-none,
         tail-none,
         ok .size,
-        instructions-number (s .program),
+        instructions-number p,
         ok .legal,
         ok .turnSlot,
         ok .spares,
-        le-leb 1 (length (imageBytes s)) (omega arith),
-        le-leb 3 (length (imageBytes s)) (omega arith),
-        le-leb (3 + length (s .program)) (length (imageBytes s)) (omega arith),
-        le-leb (3 + length (s .program) + 1) (length (imageBytes s)) m,
+        le-leb 1 (length whole) (omega arith),
+        le-leb programAt (length whole) (omega arith),
+        le-leb (programAt + length p) (length whole) (omega arith),
+        le-leb (programAt + length p + 1) (length whole) m,
       )
 
 -- ---- an image's number is one of the table
@@ -239,9 +194,9 @@ program-listed : (b : List ℕ) → Listed (programNumber b)
 unfolding programNumber
 program-listed b =
     let l = programLength b in
-    then-holds Listed (short 3 b) _ (listed-short 3 b)
+    then-holds Listed (short programAt b) _ (listed-short programAt b)
     (then-holds Listed (unless (isProgramLength l) 5) _ (listed-unless (isProgramLength l) 5 (omega arith) (omega arith))
-    (then-holds Listed (short (3 + l) b) _ (listed-short (3 + l) b) (rw (instructions-number (programOf b)) (listed-unless (allLegal (programOf b)) 6 (omega arith) (omega arith)))))
+    (then-holds Listed (short (turnSlotAt b) b) _ (listed-short (turnSlotAt b) b) (rw (instructions-number (programOf b)) (listed-unless (allLegal (programOf b)) 6 (omega arith) (omega arith)))))
 
 pub image-listed : (b : List ℕ) → Listed (imageNumber b)
 unfolding imageNumber versionNumber turnSlotNumber tailNumber estateNumber

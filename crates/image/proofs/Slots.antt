@@ -13,6 +13,7 @@ use Rattle.wire.specs.Lists.{Bytes}
 use Rattle.wire.proofs.Lists.{IsByte, split, and-both, every-drop, every-take, every-append}
 use Rattle.wire.specs.Items.{encodeItems}
 use Rattle.wire.specs.Numbers.{encodeNumber}
+use Rattle.wire.proofs.Items.{items-bytes}
 use Rattle.wire.proofs.Numbers.{encode-decode, decode-encode, encode-bytes}
 use Rattle.machine.specs.State.{Slot, unused, used, slotAt}
 use Rattle.machine.specs.Valid.{fieldsInRange, mailInRange, ValidSlot}
@@ -62,7 +63,7 @@ length-is k =
 valid-length : (n s : ℕ) (x : Slot) → ValidSlot n s x → isRecordLength (length (recordBytes x)) ≡ true
 unfolding isRecordLength
 valid-length n s unused ok = refl
-valid-length n s (used t) ok = ap isRecordLength (task-length n s t ok) ∙ length-is (length (t .mailbox)) ∙ le-leb _ 64 (mailbox-64 (t .mailbox) (task-facts n s t ok .mailbox))
+valid-length n s (used t) ok = ap isRecordLength (task-length t) ∙ length-is (length (t .mailbox)) ∙ le-leb _ 64 (mailbox-64 (t .mailbox) (task-facts n s t ok .mailbox))
 
 -- ---- bytes to slots and back
 
@@ -237,10 +238,7 @@ module _ (n : ℕ) (few : n ≤ 256) where
   slots-end s (x ∷ xs) ok =
       ap (skip (length xs)) (front-behind n s x (slotsBytes xs) few (first s x xs ok)) ∙ slots-end (s + 1) xs (later s x xs ok)
 
-  pub slots-bytes : (s : ℕ) (xs : List Slot) → ((i : ℕ) → ValidSlot n (s + i) (slotAt xs i)) → Bytes (slotsBytes xs)
-  unfolding encodeItems
-  slots-bytes s [] ok = tt
-  slots-bytes s (x ∷ xs) ok =
-      let r = recordBytes x in
-      every-append IsByte (slotBytes x) (slotsBytes xs) (every-append IsByte (encodeNumber 2 (length r)) r (encode-bytes 2 (length r)) (record-bytes n s x (first s x xs ok)))
-      (slots-bytes (s + 1) xs (later s x xs ok))
+pub slots-bytes : (xs : List Slot) → Bytes (slotsBytes xs)
+slots-bytes =
+    items-bytes slotBytes
+    (λ x. let r = recordBytes x in every-append IsByte (encodeNumber 2 (length r)) r (encode-bytes 2 (length r)) (record-bytes x))

@@ -4,17 +4,22 @@ use mathlib.Core.List.{List, [], _∷_, _++_}
 use lib.ListN.{length, getD, take, drop}
 use Rattle.wire.specs.Numbers.{decodeNumber, encodeNumber}
 use Rattle.wire.specs.Items.{encodeItems}
+use Rattle.wire.specs.Fields.{size, decodeFields, encodeFields}
 use Rattle.machine.specs.State.{Slot, State}
+use Rattle.image.specs.Format.{frontFields}
 use Rattle.image.specs.Record.{slotOf, recordBytes}
 
--- ---- ahead of the slots: version (1), program length (2), program, turn slot (1)
+-- ---- ahead of the slots: the front's fields, the program, turn slot (1)
 
-unfoldable pub programLength : List ℕ → ℕ
-programLength b = decodeNumber 2 (drop 1 b)
+unfoldable pub front : List ℕ → List ℕ
+front b = decodeFields frontFields b
+
+abbrev pub programLength : List ℕ → ℕ
+programLength b = getD (front b) 1 0
 
 -- where the program, the turn slot and slot 0 begin
 abbrev pub programAt : ℕ
-programAt = 3
+programAt = size frontFields
 
 abbrev pub turnSlotAt : List ℕ → ℕ
 turnSlotAt b = programAt + programLength b
@@ -68,5 +73,9 @@ stateOf b = record { program = programOf b; turnSlot = turnSlotOf b; slots = slo
 abbrev pub slotBytes : Slot → List ℕ
 slotBytes x = encodeNumber 2 (length (recordBytes x)) ++ recordBytes x
 
+-- what stands ahead of the slots
+unfoldable pub aheadBytes : List ℕ → ℕ → List ℕ
+aheadBytes program turnSlot = encodeFields frontFields (1 ∷ length program ∷ []) ++ program ++ (turnSlot ∷ [])
+
 unfoldable pub imageBytes : State → List ℕ
-imageBytes state = 1 ∷ encodeNumber 2 (length (state .program)) ++ state .program ++ state .turnSlot ∷ encodeItems slotBytes (state .slots)
+imageBytes state = aheadBytes (state .program) (state .turnSlot) ++ encodeItems slotBytes (state .slots)

@@ -1,4 +1,5 @@
 -- The definitions of the crate `image`, a file each.
+pub mod Format
 pub mod Record
 pub mod Image
 pub mod Refusal

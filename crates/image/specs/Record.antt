@@ -1,51 +1,38 @@
--- A slot's record: its layout, the task in it, and the task's bytes.
-use Prim.Native.Nat.{ℕ, _+_, _*_, _/_}
+-- A slot's record: the task in it, and the task's bytes.
+use Prim.Native.Nat.{ℕ, _/_}
 use mathlib.Core.List.{List, [], _∷_, _++_}
 use lib.ListN.{length, getD, drop}
-use Rattle.wire.specs.Numbers.{decodeNumber, encodeNumber}
 use Rattle.wire.specs.Items.{decodeItems, encodeItems}
+use Rattle.wire.specs.Fields.{decodeFields, encodeFields}
 use Rattle.machine.specs.State.{Message, Task, Slot, unused, used}
+use Rattle.image.specs.Format.{taskFields, messageFields, taskSize, messageSize}
 
--- ---- the layout: where each field begins, and the size of a message
+-- ---- the numbers in the fields of a message and of a task, in the format's order
 
-abbrev pub kindAt : ℕ
-kindAt = 0
+abbrev pub messageNumbers : Message → List ℕ
+messageNumbers m = m .label ∷ m .sender ∷ m .value ∷ []
 
-abbrev pub labelAt : ℕ
-labelAt = kindAt + 1
+abbrev pub messageFrom : List ℕ → Message
+messageFrom xs = record { label = getD xs 0 0; sender = getD xs 1 0; value = getD xs 2 0 }
 
-abbrev pub spareAt : ℕ
-spareAt = labelAt + 1
+abbrev pub taskNumbers : Task → List ℕ
+taskNumbers t = t .kind ∷ t .label ∷ t .spare ∷ t .pc ∷ t .registers
 
-abbrev pub pcAt : ℕ
-pcAt = spareAt + 1
-
-abbrev pub registersAt : ℕ
-registersAt = pcAt + 2
-
-abbrev pub mailboxAt : ℕ
-mailboxAt = registersAt + 8 * 4
-
-abbrev pub messageSize : ℕ
-messageSize = 6
+abbrev pub taskFrom : List ℕ → List Message → Task
+taskFrom xs ms =
+    record { kind = getD xs 0 0; label = getD xs 1 0; spare = getD xs 2 0; pc = getD xs 3 0; registers = drop 4 xs; mailbox = ms }
 
 -- ---- bytes to a task
 
--- label (1), sender (1), value (4)
 abbrev pub messageOf : List ℕ → Message
-messageOf b = record { label = getD b 0 0; sender = getD b 1 0; value = decodeNumber 4 (drop 2 b) }
+messageOf b = messageFrom (decodeFields messageFields b)
 
--- kind (1), label (1), spare (1), place (2), registers 0 to 7 (4 each), and the messages
+abbrev pub mailboxOf : List ℕ → List Message
+mailboxOf b = decodeItems messageSize messageOf (length b / messageSize) b
+
+-- its fields, and the messages behind them
 abbrev pub taskOf : List ℕ → Task
-taskOf r =
-    record {
-      kind = getD r kindAt 0;
-      label = getD r labelAt 0;
-      spare = getD r spareAt 0;
-      pc = decodeNumber 2 (drop pcAt r);
-      registers = decodeItems 4 (decodeNumber 4) 8 (drop registersAt r);
-      mailbox = decodeItems messageSize messageOf (length (drop mailboxAt r) / messageSize) (drop mailboxAt r);
-    }
+taskOf r = taskFrom (decodeFields taskFields r) (mailboxOf (drop taskSize r))
 
 -- an unused slot has no record
 abbrev pub slotOf : List ℕ → Slot
@@ -55,11 +42,10 @@ slotOf (x ∷ r) = used (taskOf (x ∷ r))
 -- ---- a task to bytes
 
 abbrev pub messageBytes : Message → List ℕ
-messageBytes m = m .label ∷ m .sender ∷ encodeNumber 4 (m .value)
+messageBytes m = encodeFields messageFields (messageNumbers m)
 
 abbrev pub taskBytes : Task → List ℕ
-taskBytes t =
-    t .kind ∷ t .label ∷ t .spare ∷ encodeNumber 2 (t .pc) ++ encodeItems (encodeNumber 4) (t .registers) ++ encodeItems messageBytes (t .mailbox)
+taskBytes t = encodeFields taskFields (taskNumbers t) ++ encodeItems messageBytes (t .mailbox)
 
 abbrev pub recordBytes : Slot → List ℕ
 recordBytes unused = []

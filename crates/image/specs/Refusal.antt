@@ -12,7 +12,8 @@ use Rattle.instruction.specs.Program.{count, instructionAt}
 use Rattle.machine.specs.Limits.{highestLabel, highestSlot, mostMessages, turnLimit}
 use Rattle.machine.specs.State.{Slot, unused, used}
 use Rattle.machine.specs.Valid.{isProgramLength, fieldsInRange, mailInRange, sparesUnused}
-use Rattle.image.specs.Record.{mailboxAt, messageSize, slotOf}
+use Rattle.image.specs.Format.{taskSize, messageSize}
+use Rattle.image.specs.Record.{slotOf}
 use Rattle.image.specs.Image.{programAt, programLength, programOf, turnSlotAt, turnSlotOf, slotsAt, slotsPart, recordLength, recordOf, behind, skip, slotsOf}
 
 -- ---- "The first met is given": 0 is none
@@ -78,7 +79,7 @@ turnSlotNumber b = short (slotsAt b) b then unless (leb (turnSlotOf b) highestSl
 
 -- 8 record length: neither 0 nor 37 + 6 × k, k at most 64
 unfoldable pub isRecordLength : ℕ → Bool
-isRecordLength l = eqb l 0 || (leb mailboxAt l && eqb ((l - mailboxAt) % messageSize) 0 && leb ((l - mailboxAt) / messageSize) mostMessages)
+isRecordLength l = eqb l 0 || (leb taskSize l && eqb ((l - taskSize) % messageSize) 0 && leb ((l - taskSize) / messageSize) mostMessages)
 
 -- 9 task field: kind, label, place out of range, or s + spare above 15;
 -- 10 mail: message label above 15 or sender above 16, or five or more of one label

@@ -4,13 +4,12 @@ use mathlib.Core.Path.{_≡_, refl, sym, _∙_}
 use mathlib.Core.Bool.{true, false, _&&_, and-false}
 use mathlib.Core.List.{List, [], _∷_, _++_}
 use native.Mathlib.Decide.{ℕ-discrete}
-use native.Mathlib.Nat.{add-zero}
 use native.Mathlib.Numerals.{add-one}
 use native.Mathlib.Omega.{arith}
 use borrow.Author.Tests.{leb-true, le-leb, lt-leb, eq-eqb, ne-eqb}
 use lib.Dec.{leb}
 use lib.ListN.{length, getD, drop, set, replicate, length-append, length-set, getD-replicate}
-use lib.Seq.{getD-drop, getD-set-same, getD-set-other}
+use lib.Seq.{getD-set-same, getD-set-other}
 use Rattle.wire.specs.Lists.{each, all}
 use Rattle.wire.specs.Items.{decodeItems}
 use Rattle.wire.proofs.Lists.{and-both, each-intro, each-fails, keep-append, all-append}
@@ -20,6 +19,7 @@ use Rattle.machine.specs.State.{Message}
 use Rattle.machine.specs.Turn.{ofLabel}
 use Rattle.machine.specs.Valid.{messageInRange, mailInRange}
 use Rattle.image.specs.Record.{messageOf}
+use Rattle.image.proofs.Offsets.{message-at}
 
 -- ---- the first j messages of a mailbox's bytes
 
@@ -79,11 +79,11 @@ mail-out-of-range ms m r after = rw (all-append, r, and-false)
 -- ---- message j, by the two bytes that are read of it
 
 module _ (b : List ℕ) (j label sender : ℕ) (l : label ≡ getD b (6 * j) 0) (s : sender ≡ getD b (6 * j + 1) 0) where
-  label-is : label ≡ getD (drop (6 * j) b) 0 0
-  label-is = rw (getD-drop, add-zero) l
+  label-is : label ≡ messageOf (drop (6 * j) b) .label
+  label-is = l ∙ sym (message-at j b .label)
 
-  sender-is : sender ≡ getD (drop (6 * j) b) 1 0
-  sender-is = rw getD-drop s
+  sender-is : sender ≡ messageOf (drop (6 * j) b) .sender
+  sender-is = s ∙ sym (message-at j b .sender)
 
   range-is : messageInRange (messageOf (drop (6 * j) b)) ≡ leb label 15 && leb sender highestSender
   range-is = rw (label-is, sender-is)

@@ -17,6 +17,7 @@ use Rattle.machine.specs.Valid.{sparesUnused}
 use Rattle.machine.proofs.Rules.{SparesFree, spares-free, spares-test}
 use Rattle.image.specs.Record.{slotOf}
 use Rattle.image.specs.Image.{recordOf, skip, slotsOf}
+use Rattle.image.proofs.Offsets.{task-at}
 use Rattle.image.proofs.Slots.{slot-at}
 
 module _ (ss : List Slot) where
@@ -91,7 +92,7 @@ unused-empty (x ∷ r) = sym (eqb·suc-zero (length r))
 
 spare-byte : (r : List ℕ) → spareOf (slotOf r) ≡ getD r 2 0
 spare-byte [] = refl
-spare-byte (x ∷ r) = refl
+spare-byte (x ∷ r) = task-at (x ∷ r) .spare
 
 module _ (b : List ℕ) (s : ℕ) (h : s < 16) where
   pub clear-at : isClear (slotsOf 16 b) s ≡ eqb (length (recordOf (skip s b))) 0 || leb (freeFrom (slotsOf 16 b) s) s

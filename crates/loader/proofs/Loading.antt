@@ -6,7 +6,7 @@ use native.Mathlib.Numerals.{add-one}
 use native.Mathlib.Omega.{arith}
 use borrow.Author.Tests.{ne-eqb}
 use lib.ListN.{length, getD, take, drop, set, length-set, length-drop, drop-of-length-le}
-use lib.Seq.{take-all, getD-drop, drop-drop, drop-cons, set-at, getD-at, getD-set-same, append-snoc}
+use lib.Seq.{take-all, drop-cons, set-at, getD-at, getD-set-same, append-snoc}
 use Rattle.wire.specs.Lists.{Bytes}
 use Rattle.wire.specs.Numbers.{decodeNumber}
 use Rattle.wire.proofs.Lists.{every-at, every-weaken}
@@ -20,16 +20,17 @@ use Rattle.machine.proofs.Mailbox.{mailbox-64}
 use Rattle.wire.specs.Items.{decodeItems}
 use Rattle.wire.proofs.Items.{length-decode, getD-decode, decode-more}
 use Rattle.machine.specs.State.{Message, Task, Slot, unused, used, slotAt, withRegister, withRegisters, withMailbox, noMessage}
-use Rattle.image.specs.Record.{messageOf, taskOf, slotOf, taskBytes}
+use Rattle.image.specs.Record.{messageOf, mailboxOf, taskOf, slotOf, taskBytes}
 use Rattle.image.specs.Image.{recordOf, skip, slotsOf, slotsPart, programOf, stateOf}
 use Rattle.image.specs.Refusal.{imageNumber}
+use Rattle.image.proofs.Offsets.{task-at, message-at}
 use Rattle.image.proofs.Slots.{length-slotsOf, slot-at}
 use Rattle.image.proofs.Image.{accepted-valid, record-accepted}
 use Rattle.image.proofs.Records.{slot-some, task-length}
 use Rattle.table.specs.Table.{held}
 use Rattle.table.specs.Change.{taskAt, Used, changeSlot, change, withMail, opened, newTask}
 use Rattle.table.proofs.Change.{change-same, change-none, change-set, change-at, change-change, opened-length, opened-label}
-use Rattle.loader.specs.Loading.{LabelsFit, Loadable, LoadableSlots, registersSet, mailSet, messagesOf, labelsOf}
+use Rattle.loader.specs.Loading.{LabelsFit, Loadable, LoadableSlots, registersSet, mailSet, labelsOf}
 
 -- what is lent from index k on
 pub from-on : (k : ℕ) (xs : List ℕ) → take (length xs - k) (drop k xs) ≡ drop k xs
@@ -62,16 +63,6 @@ unfolding mailSet
 mail-length zero b t = refl
 mail-length (suc k) b t = rw length-set (mail-length k b t)
 
--- message i by its bytes
-pub sender-at : (i : ℕ) (b : List ℕ) → getD b (6 * i + 1) 0 ≡ messageOf (drop (6 * i) b) .sender
-sender-at i b = sym (getD-drop (6 * i) b 1 0)
-
-pub value-at : (i : ℕ) (b : List ℕ) → decodeNumber 4 (drop (6 * i + 2) b) ≡ messageOf (drop (6 * i) b) .value
-value-at i b = ap (decodeNumber 4) (sym (drop-drop 2 (6 * i) b))
-
-label-at : (i : ℕ) (b : List ℕ) → getD b (6 * i) 0 ≡ messageOf (drop (6 * i) b) .label
-label-at i b = let first : 6 * i + 0 ≡ 6 * i = omega arith in rw (getD-drop (6 * i) b 0 0, first)
-
 -- ---- the labels of the messages
 
 module _ (b : List ℕ) where
@@ -89,7 +80,7 @@ module _ (b : List ℕ) where
   unfolding planesOf
   labels-next i h =
       let ls = labelsOf b in
-      ap (λ (l : ℕ). ahead l (planesOf (drop (i + 1) ls))) (label-at i b ∙ sym (label-of i h))
+      ap (λ (l : ℕ). ahead l (planesOf (drop (i + 1) ls))) (sym (message-at i b .label) ∙ sym (label-of i h))
       ∙ rw (add-one i) (ap planesOf (sym (drop-cons ls i 0 (omega (arith, length-labels)))))
 
   -- no more are behind than there is room for
@@ -152,28 +143,29 @@ module _ (s : ℕ) (b w : List ℕ) (ss ss′ : List Slot) (slots : ss′ ≡ ch
       rw (slots, x) long
 
   -- and then is that of b
-  pub mailbox-loaded : LabelsFit b → change s (mailSet n b) ss′ ≡ change s (withMailbox (messagesOf b)) ss
+  pub mailbox-loaded : LabelsFit b → change s (mailSet n b) ss′ ≡ change s (withMailbox (mailboxOf b)) ss
   mailbox-loaded fit =
       let labelled : Labelled b ms
       = λ i h. let l : i < n = omega (arith, long) in opened-label n (labelFrom 4 (planeOf (planesOf (labelsOf b)))) w i l
       ∙ label-gathered (labelsOf b) i (omega (arith, length-labels b)) (fit i l) ∙ label-of b i l in
-      let all : decodeItems 6 messageOf n b ++ drop n ms ≡ messagesOf b = rw (drop-of-length-le ms {i = n} (omega (arith, long))) (append-nil (messagesOf b)) in
+      let all : decodeItems 6 messageOf n b ++ drop n ms ≡ mailboxOf b = rw (drop-of-length-le ms {i = n} (omega (arith, long))) (append-nil (mailboxOf b)) in
       ap (change s (mailSet n b)) slots ∙ change-change s (withMailbox ms) (mailSet n b) ss
-      ∙ change-same ss s (λ t. mailSet n b (withMailbox ms t)) (withMailbox (messagesOf b))
+      ∙ change-same ss s (λ t. mailSet n b (withMailbox ms t)) (withMailbox (mailboxOf b))
       (λ t e. mail-are n b (withMailbox ms t) (omega (arith, long)) labelled ∙ ap (λ (xs : List Message). withMailbox xs t) all)
 
 module _ (r : List ℕ) (ok : Loadable r) where
   -- the task as it is put, with registers 0 and no messages
   abbrev new : Task
-  new = newTask (getD r 0 0) (getD r 1 0) (getD r 2 0) (decodeNumber 2 (drop 3 r))
+  new = newTask (taskOf r .kind) (taskOf r .label) (taskOf r .spare) (taskOf r .pc)
 
-  task-is : withMailbox (messagesOf (drop 37 r)) (registersSet 8 (drop 5 r) new) ≡ taskOf r
+  task-is : withMailbox (mailboxOf (drop 37 r)) (registersSet 8 (drop 5 r) new) ≡ taskOf r
   task-is =
       let rs = decodeItems 4 (decodeNumber 4) 8 (drop 5 r) in
-      ap (withMailbox (messagesOf (drop 37 r))) (registers-are 8 (drop 5 r) new (omega arith) ∙ ap (λ (xs : List ℕ). withRegisters xs new) (append-nil rs))
+      ap (withMailbox (mailboxOf (drop 37 r)))
+      (registers-are 8 (drop 5 r) new (omega arith) ∙ ap (λ (xs : List ℕ). withRegisters xs new) (append-nil rs ∙ sym (task-at r .registers)))
 
   new-held : held new ≡ used new
-  new-held = rw (ne-eqb (getD r 0 0) 0 (λ e. omega (arith, ok .kind)))
+  new-held = rw (ne-eqb (taskOf r .kind) 0 (λ e. omega (arith, ok .kind)))
 
   -- the new task with its registers is there
   pub registers-here : (s : ℕ) (ss : List Slot) → s < length ss → Used s (change s (registersSet 8 (drop 5 r)) (set ss s (held new)))
@@ -184,9 +176,9 @@ module _ (r : List ℕ) (ok : Loadable r) where
 
   -- a new task, its registers and its messages
   pub task-loaded : (s : ℕ) (ss : List Slot)
-      → change s (withMailbox (messagesOf (drop 37 r))) (change s (registersSet 8 (drop 5 r)) (set ss s (held new))) ≡ set ss s (used (taskOf r))
+      → change s (withMailbox (mailboxOf (drop 37 r))) (change s (registersSet 8 (drop 5 r)) (set ss s (held new))) ≡ set ss s (used (taskOf r))
   task-loaded s ss =
-      rw (new-held, change-set s (registersSet 8 (drop 5 r)) ss (used new), change-set s (withMailbox (messagesOf (drop 37 r))) ss (used (registersSet 8 (drop 5 r) new)), task-is)
+      rw (new-held, change-set s (registersSet 8 (drop 5 r)) ss (used new), change-set s (withMailbox (mailboxOf (drop 37 r))) ss (used (registersSet 8 (drop 5 r) new)), task-is)
 
 -- ---- the slots
 
@@ -200,10 +192,10 @@ load-next b ys k r ss h l e f =
 -- ---- an accepted image
 
 -- the messages of a mailbox that is sound have labels
-labels-fit : (b : List ℕ) → MailboxFacts (messagesOf b) → LabelsFit b
+labels-fit : (b : List ℕ) → MailboxFacts (mailboxOf b) → LabelsFit b
 labels-fit b facts i h =
     let small : (m : Message) → MessageFacts m → m .label ≤ 15 = λ m f. f .label in
-    let there = every-at (λ m. m .label ≤ 15) noMessage (omega arith) (messagesOf b) (every-weaken MessageFacts (λ m. m .label ≤ 15) small (messagesOf b) (facts .each)) i in
+    let there = every-at (λ m. m .label ≤ 15) noMessage (omega arith) (mailboxOf b) (every-weaken MessageFacts (λ m. m .label ≤ 15) small (mailboxOf b) (facts .each)) i in
     rw (label-of b i h) (rw (getD-decode 6 messageOf (length b / 6) i b noMessage h) at there)
 
 module _ (b : List ℕ) where
@@ -216,5 +208,5 @@ module _ (b : List ℕ) where
       let valid : ValidTask (count (programOf b)) i (taskOf r) = rw x at (accepted-valid b h e .tasks i) in
       let facts = task-facts (count (programOf b)) i (taskOf r) valid in
       let back : taskBytes (taskOf r) ≡ r = rw (slot-some r (λ z. omega arith)) at (record-accepted b i h e (omega arith)) in
-      let long : 37 ≤ length r = omega (arith, task-length (count (programOf b)) i (taskOf r) valid, ap length back) in
+      let long : 37 ≤ length r = omega (arith, task-length (taskOf r), ap length back) in
       record { long = long; kind = facts .kind-low; messages = rw length-decode at (mailbox-64 (taskOf r .mailbox) (facts .mailbox)); labels = labels-fit (drop 37 r) (facts .mailbox) }

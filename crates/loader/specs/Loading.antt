@@ -5,8 +5,9 @@ use lib.ListN.{length, getD, drop}
 use Rattle.wire.specs.Numbers.{decodeNumber}
 use Rattle.wire.specs.Items.{decodeItems}
 use Rattle.machine.specs.Limits.{highestLabel}
-use Rattle.machine.specs.State.{Message, Task, withRegister}
-use Rattle.image.specs.Record.{kindAt, mailboxAt, messageSize, messageOf}
+use Rattle.machine.specs.State.{Task, withRegister}
+use Rattle.image.specs.Format.{taskSize, messageSize}
+use Rattle.image.specs.Record.{messageOf, taskOf}
 use Rattle.image.specs.Image.{recordOf, skip}
 use Rattle.table.specs.Table.{mailboxRoom}
 use Rattle.table.specs.Change.{withMail}
@@ -21,23 +22,20 @@ unfoldable pub mailSet : ℕ → List ℕ → Task → Task
 mailSet zero b t = t
 mailSet (suc k) b t = withMail k (messageOf (drop (messageSize * k) b) .sender) (messageOf (drop (messageSize * k) b) .value) (mailSet k b t)
 
--- the messages of b, and their labels
-abbrev pub messagesOf : List ℕ → List Message
-messagesOf b = decodeItems messageSize messageOf (length b / messageSize) b
-
+-- the labels of the messages of b
 abbrev pub labelsOf : List ℕ → List ℕ
 labelsOf b = decodeItems messageSize (λ m. messageOf m .label) (length b / messageSize) b
 
--- the labels of the messages of b are labels
+-- each is one
 abbrev pub LabelsFit : List ℕ → Type 0
 LabelsFit b = (i : ℕ) → i < length b / messageSize → getD (labelsOf b) i 0 ≤ highestLabel
 
 -- a record whose task the table can hold: all fields, a kind, and no more messages than a mailbox has room for, each with a label
 pub record Loadable (r : List ℕ) : Type 0 where
-  pub long : mailboxAt ≤ length r
-  pub kind : 1 ≤ getD r kindAt 0
-  pub messages : length (drop mailboxAt r) / messageSize ≤ mailboxRoom
-  pub labels : LabelsFit (drop mailboxAt r)
+  pub long : taskSize ≤ length r
+  pub kind : 1 ≤ taskOf r .kind
+  pub messages : length (drop taskSize r) / messageSize ≤ mailboxRoom
+  pub labels : LabelsFit (drop taskSize r)
 
 -- no bytes are an unused slot
 abbrev pub LoadableSlot : List ℕ → Type 0

@@ -4,12 +4,13 @@ ghost use mathlib.Core.Path.{_≡_};
 ghost use lib.ListN.{length, set};
 ghost use Rattle.planes.specs.Planes.{planesOf};
 ghost use Rattle.machine.specs.State.{used, withMailbox};
-ghost use Rattle.image.specs.Record.{taskOf, slotOf, messageSize};
+ghost use Rattle.image.specs.Format.{messageSize};
+ghost use Rattle.image.specs.Record.{mailboxOf, taskOf, slotOf};
 ghost use Rattle.image.specs.Image.{slotsOf, stateOf};
 ghost use Rattle.image.specs.Refusal.{imageNumber};
 ghost use Rattle.table.specs.Table.{mailboxRoom, slotsIn};
 ghost use Rattle.table.specs.Change.{taskAt, Used, change};
-ghost use Rattle.loader.specs.Loading.{LabelsFit, Loadable, LoadableSlot, LoadableSlots, registersSet, mailSet, messagesOf, labelsOf};
+ghost use Rattle.loader.specs.Loading.{LabelsFit, Loadable, LoadableSlot, LoadableSlots, registersSet, mailSet, labelsOf};
 
 // Sets the eight registers of the task in a slot.
 fn load_registers(table: &mut table::Table, slot: usize, registers: &[u8])
@@ -57,7 +58,7 @@ fn load_mail(table: &mut table::Table, slot: usize, mailbox: &[u8])
 // The task in a slot gets the messages as its mailbox. Labels go ahead of the rest, so that each plane is stored once.
 fn load_mailbox(table: &mut table::Table, slot: usize, mailbox: &[u8])
     requires { ⌜ Used slot (slotsIn (now table)) × (length (now mailbox) / messageSize ≤ mailboxRoom) × LabelsFit (now mailbox) ⌝ }
-    ensures { λ _. ⌜ slotsIn (now (table .exit)) ≡ change slot (withMailbox (messagesOf (now (mailbox .entry)))) (slotsIn (now (table .entry))) ⌝ }
+    ensures { λ _. ⌜ slotsIn (now (table .exit)) ≡ change slot (withMailbox (mailboxOf (now (mailbox .entry)))) (slotsIn (now (table .entry))) ⌝ }
 {
     let count = mailbox.len() / image::MESSAGE_SIZE;
     table::open_mailbox(table, slot, count, label_planes(mailbox));

@@ -2,6 +2,7 @@
 use mathlib.Core.Path.{refl}
 use Rattle.wire.specs.Lists as Lists
 use Rattle.wire.specs.Items as Items
+use Rattle.wire.specs.Fields as Fields
 use Rattle.label.specs.Label as Label
 use Rattle.instruction.specs.Table as Table
 use Rattle.instruction.specs.Program as Program
@@ -17,10 +18,10 @@ use Rattle.monitor.specs.Examples.{Examples}
 
 pub examples : Examples
 unfolding Lists.each Label.flows Table.decode Program.instructionAt Effect.execute Effect.outcome Turn.turnBy
-    Turn.turnsBy Turn.busyBy Post.post View.viewBy Refusal.instructionsNumber Lists.all Items.decodeItems Items.encodeItems Image.programLength Image.slotsPart Refusal.versionNumber
+    Turn.turnsBy Turn.busyBy Post.post View.viewBy Refusal.instructionsNumber Lists.all Items.decodeItems Items.encodeItems Fields.decodeFields Fields.encodeFields Image.front Image.slotsPart Refusal.versionNumber
     Valid.isProgramLength Refusal.programNumber Refusal.turnSlotNumber Image.recordLength Image.skip Image.slotsOf
     Refusal.isRecordLength Refusal.slotNumber Refusal.slotsNumber Refusal.tailNumber Valid.sparesUnused
-    Refusal.estateNumber Refusal.imageNumber Image.stateOf Image.imageBytes Calls.callNumber Calls.callAnswer
+    Refusal.estateNumber Refusal.imageNumber Image.stateOf Image.aheadBytes Image.imageBytes Calls.callNumber Calls.callAnswer
 examples = record {
   p1 = (refl, refl);
   p2 = (refl, refl);

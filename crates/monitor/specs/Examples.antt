@@ -9,7 +9,7 @@ use Rattle.label.specs.Label.{flows}
 use Rattle.machine.specs.State.{Message, Task, Slot, unused, used, State, withKind, withSpare, withRegister, withMailbox, next}
 use Rattle.machine.specs.Post.{post, delivered}
 use Rattle.machine.specs.Machine.{turns, busy, view}
-use Rattle.image.specs.Record.{mailboxAt}
+use Rattle.image.specs.Format.{taskSize}
 use Rattle.image.specs.Image.{imageBytes}
 use Rattle.image.specs.Refusal.{imageNumber}
 use Rattle.image.specs.Examples.{task, message, one, two}
@@ -162,4 +162,4 @@ pub record Examples : Type 0 where
   -- The secrecy rule speaks of images that differ: B with and without a task of label 1 in slot 9 shows observer 0 the same.
   pub hidden : (imageNumber (bImage (used (task 1 0 0))) ≡ 0) × (imageNumber (bImage unused) ≡ 0)
       × (viewBytes 0 (bImage (used (task 1 0 0))) ≡ viewBytes 0 (bImage unused))
-      × (length (bImage (used (task 1 0 0))) ≡ mailboxAt + length (bImage unused))
+      × (length (bImage (used (task 1 0 0))) ≡ taskSize + length (bImage unused))

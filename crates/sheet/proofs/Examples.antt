@@ -2,6 +2,7 @@
 use mathlib.Core.Path.{refl}
 use Rattle.wire.specs.Lists as Lists
 use Rattle.wire.specs.Items as Items
+use Rattle.wire.specs.Fields as Fields
 use Rattle.label.specs.Label as Label
 use Rattle.instruction.specs.Table as Table
 use Rattle.instruction.specs.Program as Program
@@ -18,10 +19,10 @@ use Rattle.sheet.proofs.Printed.{printed-long}
 
 pub prints : Prints
 unfolding Lists.each Lists.tabulate Label.flows Table.decode Program.instructionAt Effect.execute Effect.outcome Turn.turnBy
-    Turn.turnsBy View.viewBy Refusal.instructionsNumber Lists.all Items.decodeItems Items.encodeItems Image.programLength Image.slotsPart Refusal.versionNumber
+    Turn.turnsBy View.viewBy Refusal.instructionsNumber Lists.all Items.decodeItems Items.encodeItems Fields.decodeFields Fields.encodeFields Image.front Image.slotsPart Refusal.versionNumber
     Valid.isProgramLength Refusal.programNumber Refusal.turnSlotNumber Image.recordLength Image.skip Image.slotsOf
     Refusal.isRecordLength Refusal.slotNumber Refusal.slotsNumber Refusal.tailNumber Valid.sparesUnused
-    Refusal.estateNumber Refusal.imageNumber Image.stateOf Image.imageBytes
+    Refusal.estateNumber Refusal.imageNumber Image.stateOf Image.aheadBytes Image.imageBytes
     Text.ascii Text.digits Text.decimal Text.spaced Text.lineRest
     Sheet.heading Sheet.slotLine Sheet.slotLines Sheet.sheetText Sheet.refusalLine Sheet.printed
 prints = record {

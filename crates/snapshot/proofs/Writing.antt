@@ -4,22 +4,27 @@ use mathlib.Core.Path.{_≡_, refl, sym, ap, _∙_}
 use mathlib.Core.Bool.{Bool, true, false}
 use mathlib.Core.List.{List, [], _∷_, _++_}
 use native.Mathlib.Omega.{arith}
-use lib.ListN.{length, length-append}
-use lib.Seq.{append-snoc}
+use lib.ListN.{length, take, length-append}
 use Rattle.label.specs.Label.{flows}
 use Rattle.wire.specs.Lists.{keep}
 use Rattle.wire.specs.Numbers.{encodeNumber}
 use Rattle.wire.specs.Items.{encodeItems}
+use Rattle.wire.specs.Output.{overwrite}
 use Rattle.wire.proofs.Items.{items-map, items-keep, length-items}
 use Rattle.machine.specs.State.{Message, Task, Slot, unused, used, slotAt}
 use Rattle.machine.specs.View.{viewTask, viewSlot, viewBy}
-use Rattle.image.specs.Record.{messageBytes}
-use Rattle.image.specs.Image.{programOf, slotBytes, imageBytes}
-use Rattle.image.proofs.Records.{length-registers}
+use Rattle.wire.proofs.Fields.{length-fields}
+use Rattle.image.specs.Format.{taskFields}
+use Rattle.image.specs.Record.{taskNumbers, messageBytes}
+use Rattle.image.specs.Image.{programOf, slotBytes, aheadBytes, imageBytes}
+use Rattle.image.specs.Inner.{headBytes}
+use Rattle.image.proofs.Offsets.{task-parts}
+use Rattle.image.proofs.Records.{length-message}
+use Rattle.image.proofs.Front.{ahead-length}
 use Rattle.table.specs.Table.{slotsIn}
 use Rattle.table.specs.Change.{taskOr, taskAt, Used}
 use Rattle.table.proofs.Slots.{used-registers}
-use Rattle.snapshot.specs.Writing.{snapshotBytes, headBytes, shownSlot, shownTask, shownMessage, isShown}
+use Rattle.snapshot.specs.Writing.{snapshotBytes, shownSlot, shownTask, shownMessage, isShown}
 
 -- ---- a message
 
@@ -41,7 +46,7 @@ module _ (v : ℕ) (t : Task) where
   mailbox-shown = items-keep messageBytes (λ m. flows (m .label) v) (t .mailbox)
 
   pub mailbox-length : 6 * length (viewTask (λ l. flows l v) t .mailbox) ≡ length (encodeItems (shownMessage v) (t .mailbox))
-  mailbox-length = sym (length-items messageBytes 6 (λ m. refl) (keep (λ m. flows (m .label) v) (t .mailbox))) ∙ ap length mailbox-shown
+  mailbox-length = sym (length-items messageBytes 6 length-message (keep (λ m. flows (m .label) v) (t .mailbox))) ∙ ap length mailbox-shown
 
 -- ---- a task: its record's length, its fields, its registers and its messages
 
@@ -52,17 +57,27 @@ module _ (v : ℕ) (t : Task) (eight : length (t .registers) ≡ 8) where
   abbrev mailbox : List ℕ
   mailbox = encodeItems (shownMessage v) (t .mailbox)
 
-  record-length : length (registers ++ mailbox) ≡ 32 + length mailbox
-  record-length = omega (arith, length-append registers mailbox, length-registers (t .registers))
+  abbrev head : List ℕ
+  head = headBytes (t .kind ∷ t .label ∷ t .spare ∷ t .pc ∷ [])
 
-  pub task-shown : shownTask v t ≡ encodeNumber 2 (37 + length mailbox) ++ (t .kind ∷ t .label ∷ t .spare ∷ encodeNumber 2 (t .pc)) ++ registers ++ mailbox
+  record-length : length (head ++ registers ++ mailbox) ≡ 37 + length mailbox
+  record-length =
+      length-append (head ++ registers) mailbox ∙ ap (λ (n : ℕ). n + length mailbox) (ap length (sym (task-parts t eight)) ∙ length-fields taskFields (taskNumbers t))
+
+  pub task-shown : shownTask v t ≡ encodeNumber 2 (37 + length mailbox) ++ head ++ registers ++ mailbox
   unfolding shownTask
-  task-shown =
-      let size : length ((t .kind ∷ t .label ∷ t .spare ∷ encodeNumber 2 (t .pc)) ++ registers ++ mailbox) ≡ 37 + length mailbox = omega (arith, record-length) in
-      rw (mailbox-shown v t) (ap (λ (n : ℕ). encodeNumber 2 n ++ (t .kind ∷ t .label ∷ t .spare ∷ encodeNumber 2 (t .pc)) ++ registers ++ mailbox) size)
+  task-shown = rw (mailbox-shown v t, task-parts t eight) (ap (λ (n : ℕ). encodeNumber 2 n ++ head ++ registers ++ mailbox) record-length)
 
   pub task-length : length (shownTask v t) ≡ 39 + length mailbox
   task-length = rw task-shown (omega (arith, record-length))
+
+pub head-length : (xs : List ℕ) → length (headBytes xs) ≡ 5
+head-length = length-fields (take 4 taskFields)
+
+-- what was written of a length and fields, by what these are
+pub head-same : {n n′ : ℕ} {xs xs′ after : List ℕ} (out : List ℕ) → n ≡ n′ → xs ≡ xs′
+    → after ≡ overwrite (encodeNumber 2 n ++ headBytes xs) out → after ≡ overwrite (encodeNumber 2 n′ ++ headBytes xs′) out
+head-same out e f wrote = wrote ∙ (λ i. overwrite (encodeNumber 2 (e i) ++ headBytes (f i)) out)
 
 -- ---- a slot
 
@@ -112,17 +127,10 @@ slot-hidden v x e = ap slotBytes (viewSlot-hidden v x e)
 
 -- ---- the whole
 
-pub head-length : (program : List ℕ) (turn : ℕ) → length (headBytes program turn) ≡ 3 + length program + 1
-unfolding headBytes
-head-length program turn = omega (arith, length-append program (turn ∷ []))
-
-pub snapshot-parts : (words image : List ℕ) (turn v : ℕ) → snapshotBytes words image turn v ≡ headBytes (programOf image) turn ++ encodeItems (shownSlot v) (slotsIn words)
-unfolding snapshotBytes headBytes shownSlot viewBy imageBytes
-snapshot-parts words image turn v =
-    let front = 1 ∷ encodeNumber 2 (length (programOf image)) ++ programOf image in
-    ap (λ (r : List ℕ). front ++ turn ∷ r) (items-map slotBytes (viewSlot (λ l. flows l v)) (slotsIn words))
-    ∙ sym (append-snoc front turn (encodeItems (λ x. slotBytes (viewSlot (λ l. flows l v) x)) (slotsIn words)))
+pub snapshot-parts : (words image : List ℕ) (turn v : ℕ) → snapshotBytes words image turn v ≡ aheadBytes (programOf image) turn ++ encodeItems (shownSlot v) (slotsIn words)
+unfolding snapshotBytes shownSlot viewBy imageBytes
+snapshot-parts words image turn v = rw (items-map slotBytes (viewSlot (λ l. flows l v)) (slotsIn words))
 
 pub snapshot-length : (words image : List ℕ) (turn v : ℕ) → length (snapshotBytes words image turn v) ≡ 3 + length (programOf image) + 1 + length (encodeItems (shownSlot v) (slotsIn words))
 snapshot-length words image turn v =
-    rw (snapshot-parts words image turn v, length-append, head-length (programOf image) turn)
+    rw (snapshot-parts words image turn v, length-append, ahead-length (programOf image) turn)

@@ -1,9 +1,7 @@
 -- The bytes that are written of the table for an observer, and of each part of it.
 use Prim.Native.Nat.{ℕ}
 use mathlib.Core.Bool.{Bool, false, cond}
-use mathlib.Core.List.{List, [], _∷_, _++_}
-use lib.ListN.{length}
-use Rattle.wire.specs.Numbers.{encodeNumber}
+use mathlib.Core.List.{List, []}
 use Rattle.label.specs.Label.{flows}
 use Rattle.machine.specs.State.{Message, Task, Slot, unused, used}
 use Rattle.machine.specs.View.{viewTask, viewSlot}
@@ -17,10 +15,6 @@ unfoldable pub snapshotBytes : List ℕ → List ℕ → ℕ → ℕ → List �
 snapshotBytes words image turnSlot v = imageBytes (view v (stateIn (programOf image) turnSlot words))
 
 -- ---- its parts
-
--- what stands ahead of the slots
-unfoldable pub headBytes : List ℕ → ℕ → List ℕ
-headBytes program turnSlot = 1 ∷ encodeNumber 2 (length program) ++ program ++ (turnSlot ∷ [])
 
 -- a slot in the view, and a task that is in it
 unfoldable pub shownSlot : ℕ → Slot → List ℕ

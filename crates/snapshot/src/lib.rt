@@ -1,7 +1,7 @@
 // Snapshots: the table written as an image for an observer.
 ghost use Prim.Native.Nat.{_+_, _≤_, _<_};
 ghost use mathlib.Core.Path.{_≡_};
-ghost use mathlib.Core.List.{_∷_, _++_};
+ghost use mathlib.Core.List.{[], _∷_, _++_};
 ghost use lib.ListN.{length};
 ghost use Rattle.wire.specs.Numbers.{encodeNumber};
 ghost use Rattle.wire.specs.Items.{encodeItems};
@@ -11,9 +11,11 @@ ghost use Rattle.label.specs.Label.{flows};
 ghost use Rattle.machine.specs.State.{slotAt};
 ghost use Rattle.machine.specs.View.{viewTask};
 ghost use Rattle.image.specs.Record.{messageBytes};
+ghost use Rattle.image.specs.Image.{aheadBytes};
+ghost use Rattle.image.specs.Inner.{headBytes};
 ghost use Rattle.table.specs.Table.{slotsIn};
 ghost use Rattle.table.specs.Change.{taskAt, Used, messageAt};
-ghost use Rattle.snapshot.specs.Writing.{snapshotBytes, headBytes, shownSlot, shownTask, shownMessage, isShown};
+ghost use Rattle.snapshot.specs.Writing.{snapshotBytes, shownSlot, shownTask, shownMessage, isShown};
 
 // ---- what an observer sees
 
@@ -137,7 +139,7 @@ fn write_registers(out: &mut [u8], table: &table::Table, slot: usize)
 // Writes the length of a record and the fields ahead of the registers.
 fn write_fields(out: &mut [u8], size: usize, kind: u8, label: u8, spare: u8, pc: u32)
     requires { ⌜ 7 ≤ length (now out) ⌝ }
-    ensures { λ _. ⌜ now (out .exit) ≡ overwrite (encodeNumber 2 size ++ kind ∷ label ∷ spare ∷ encodeNumber 2 pc) (now (out .entry)) ⌝ }
+    ensures { λ _. ⌜ now (out .exit) ≡ overwrite (encodeNumber 2 size ++ headBytes (kind ∷ label ∷ spare ∷ pc ∷ [])) (now (out .entry)) ⌝ }
 {
     wire::encode_u16(out, size);
     out[2] = kind;
@@ -194,7 +196,7 @@ fn write_slots(out: &mut [u8], table: &table::Table, observer: u8)
 // Writes what stands ahead of the slots: version, program length, program, turn slot.
 fn write_head(out: &mut [u8], program: &[u8], turn: u8)
     requires { ⌜ 3 + length (now program) + 1 ≤ length (now out) ⌝ }
-    ensures { λ _. ⌜ now (out .exit) ≡ overwrite (headBytes (now (program .entry)) turn) (now (out .entry)) ⌝ }
+    ensures { λ _. ⌜ now (out .exit) ≡ overwrite (aheadBytes (now (program .entry)) turn) (now (out .entry)) ⌝ }
 {
     wire::put_byte(out, 1);
     wire::encode_u16(&mut out[1..], program.len());

@@ -120,7 +120,7 @@ module _ {A : Type 0} (g : A → List ℕ) where
       let e : w * suc (length xs) ≡ w + w * length xs = rw mul-suc (omega arith) in
       rw (length-append, e) (omega (arith, most .0))
 
-  pub items-bytes : (P : A → Type 0) → ((x : A) → P x → Bytes (g x)) → (xs : List A) → Every P xs → Bytes (encodeItems g xs)
+  pub items-bytes : ((x : A) → Bytes (g x)) → (xs : List A) → Bytes (encodeItems g xs)
   unfolding encodeItems
-  items-bytes P one [] h = tt
-  items-bytes P one (x ∷ xs) h = every-append IsByte (g x) (encodeItems g xs) (one x (h .0)) (items-bytes P one xs (h .1))
+  items-bytes one [] = tt
+  items-bytes one (x ∷ xs) = every-append IsByte (g x) (encodeItems g xs) (one x) (items-bytes one xs)

@@ -2,6 +2,7 @@
 pub mod Lists
 pub mod Numbers
 pub mod Items
+pub mod Fields
 pub mod Output
 pub mod Tabulate
 pub mod Equal

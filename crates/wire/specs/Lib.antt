@@ -3,5 +3,6 @@ pub mod Lists
 pub mod Numbers
 pub mod Output
 pub mod Items
+pub mod Fields
 pub mod Slices
 pub mod Inner

@@ -1,6 +1,6 @@
 -- `loader::load_mail` meets its contract: the first i messages are set.
 use Prim.Native.Nat.{_/_, _-_, _≤_}
-use mathlib.Core.Path.{_≡_, ap, _∙_}
+use mathlib.Core.Path.{_≡_, sym, ap, _∙_}
 use native.Mathlib.Omega.{arith}
 use denote.Ref.{now}
 use lib.ListN.{length, length-drop}
@@ -8,8 +8,9 @@ use Rattle.machine.specs.State.{Task}
 use Rattle.table.specs.Table.{slotsIn}
 use Rattle.table.specs.Change.{change, withMail}
 use Rattle.table.proofs.Change.{change-keeps}
+use Rattle.image.proofs.Offsets.{message-at}
 use Rattle.loader.specs.Loading.{mailSet}
-use Rattle.loader.proofs.Loading.{from-on, mail-none, mail-next, mail-length, sender-at, value-at}
+use Rattle.loader.proofs.Loading.{from-on, mail-none, mail-next, mail-length}
 use Rattle.loader.proofs.load_mail.Statement.{statement}
 use Rattle.loader.proofs.load_mail.Tie as tie
 
@@ -36,7 +37,7 @@ loop-again c =
     let m = now (a .mailbox) in (
       omega arith,
       c .set-mail .ensures ∙ ap (change (a .slot) (withMail (h .i) (sender .result) (value .result))) (h .inv .1)
-          ∙ mail-next (a .slot) (h .i) (sender .result) (value .result) m (slotsIn (now (a .table))) (sender .ensures ∙ sender-at (h .i) m) (rw from-on at (value .ensures) ∙ value-at (h .i) m),
+          ∙ mail-next (a .slot) (h .i) (sender .result) (value .result) m (slotsIn (now (a .table))) (sender .ensures ∙ sym (message-at (h .i) m .sender)) (rw from-on at (value .ensures) ∙ sym (message-at (h .i) m .value)),
     )
 
 returns : tie.Need-returns Inv-loop μ-loop

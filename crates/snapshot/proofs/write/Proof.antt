@@ -7,10 +7,11 @@ use denote.Ref.{now}
 use lib.ListN.{length}
 use Rattle.wire.specs.Items.{encodeItems}
 use Rattle.wire.proofs.Output.{written-fits, written-short, lent}
-use Rattle.image.specs.Image.{programOf}
+use Rattle.image.specs.Image.{programOf, aheadBytes}
+use Rattle.image.proofs.Front.{ahead-length}
 use Rattle.table.specs.Table.{slotsIn}
-use Rattle.snapshot.specs.Writing.{snapshotBytes, headBytes, shownSlot}
-use Rattle.snapshot.proofs.Writing.{head-length, snapshot-parts, snapshot-length}
+use Rattle.snapshot.specs.Writing.{snapshotBytes, shownSlot}
+use Rattle.snapshot.proofs.Writing.{snapshot-parts, snapshot-length}
 use Rattle.snapshot.proofs.write.Statement.{statement}
 use Rattle.snapshot.proofs.write.Tie as tie
 
@@ -32,9 +33,9 @@ returns-2 c =
     let size = snapshot-length words image (a .turn) (a .observer) in
     let program = b .before .program .ensures in
     let head = rw program at (c .before .before .before .before .before .before .write-head .ensures) in
-    let long = head-length (programOf image) (a .turn) ∙ ap (λ (l : List ℕ). 3 + length l + 1) (sym program) in
+    let long = ahead-length (programOf image) (a .turn) ∙ ap (λ (l : List ℕ). 3 + length l + 1) (sym program) in
     let slots = encodeItems (shownSlot (a .observer)) (slotsIn words) in
-    let whole = lent (headBytes (programOf image) (a .turn)) slots (now (a .out)) _ long head (c .before .before .write-slots .ensures) in
+    let whole = lent (aheadBytes (programOf image) (a .turn)) slots (now (a .out)) _ long head (c .before .before .write-slots .ensures) in
     let room : length bytes ≤ length (now (a .out)) = omega (arith, size, ap length program, b .slots-size .ensures .0) in
     (omega (arith, size, ap length program, b .slots-size .ensures .0), whole ∙ rw (← snapshot-parts words image (a .turn) (a .observer)) (sym (written-fits bytes (now (a .out)) room)))
 

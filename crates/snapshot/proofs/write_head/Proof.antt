@@ -7,12 +7,13 @@ use denote.Ref.{now}
 use lib.ListN.{length, length-append}
 use Rattle.wire.specs.Numbers.{encodeNumber}
 use Rattle.wire.proofs.Output.{written-fits, lent-fits}
-use Rattle.snapshot.specs.Writing.{headBytes}
+use Rattle.image.specs.Image.{aheadBytes}
+use Rattle.image.proofs.Offsets.{front-bytes}
 use Rattle.snapshot.proofs.write_head.Statement.{statement}
 use Rattle.snapshot.proofs.write_head.Tie as tie
 
 returns : tie.Need-returns
-unfolding headBytes
+unfolding aheadBytes
 returns c =
     let s = c .before .before .before .before .before .before .before .before .before .before .before .before .before .before .before .before .before .before in
     let program = now (s .args .program) in
@@ -24,7 +25,8 @@ returns c =
     let sized = lent-fits (1 ∷ []) size out 1 refl (omega arith) version (e .encode-u16 .ensures) in
     let copied = lent-fits (1 ∷ size) program out 3 refl (omega arith) sized (c .before .before .before .before .before .before .copy .ensures) in
     let fits = length-append program (s .args .turn ∷ []) in
-    lent-fits (1 ∷ size ++ program) (s .args .turn ∷ []) out (3 + length program) (omega arith) (omega (arith, fits)) copied (c .before .before .put-byte2 .ensures)
+    rw (front-bytes (length program))
+    (lent-fits (1 ∷ size ++ program) (s .args .turn ∷ []) out (3 + length program) (omega arith) (omega (arith, fits)) copied (c .before .before .put-byte2 .ensures))
 
 pub write-head-spec : {M : Type 1} → statement M
 write-head-spec =

@@ -1,12 +1,14 @@
 -- `snapshot::write_message` meets its contract: six bytes, or none of a message that is left out.
 use Prim.Native.Nat.{_≤_}
-use mathlib.Core.Path.{_≡_, refl, ap, _∙_}
+use mathlib.Core.Path.{_≡_, refl, sym, ap, _∙_}
 use native.Mathlib.Omega.{arith}
 use denote.Ref.{now}
 use lib.ListN.{length}
+use Rattle.wire.specs.Output.{overwrite}
 use Rattle.wire.proofs.Output.{length-overwrite}
 use Rattle.machine.specs.State.{Message}
 use Rattle.image.specs.Record.{messageBytes}
+use Rattle.image.proofs.Records.{length-message}
 use Rattle.table.specs.Table.{slotsIn}
 use Rattle.table.specs.Change.{messageAt}
 use Rattle.snapshot.specs.Writing.{shownMessage}
@@ -22,15 +24,25 @@ shown : (c : tie.Then1) → let s = c .before .before .before .before in shownMe
 shown c = message-shown _ _ (c .before .before .message-label .ensures) (c .before .flows .ensures) (c .if1 .taken)
 
 room : (c : tie.Then1) → 6 ≤ length (now (c .before .before .before .before .args .out))
-room c = rw (shown c) at (c .before .before .before .before .pre .1)
+room c = let s = c .before .before .before .before in rw (shown c, length-message (message s)) at (s .pre .1)
 
 returns : tie.Need-returns
 returns c =
-    let label = c .before .before .before .before .before .before .before .before .message-label .ensures in
-    let sender = c .before .before .before .before .before .message-sender .ensures in
-    let value = c .before .before .before .before .message-value .ensures in
+    let p = c .before .before in
+    let s = p .before .before .before .before .before .before .before .before in
+    let m : Message = record {
+      label = p .before .before .before .before .before .before .message-label .result;
+      sender = p .before .before .before .message-sender .result;
+      value = p .before .before .message-value .result;
+    } in
+    let e : m ≡ message s
+    = λ i. record {
+      label = p .before .before .before .before .before .before .message-label .ensures i;
+      sender = p .before .before .before .message-sender .ensures i;
+      value = p .before .before .message-value .ensures i;
+    } in
     rw (shown (c .before .before .before .before .before .before))
-    (refl, omega arith, rw (label, sender, value) at (c .before .before .put-message .ensures))
+    (sym (length-message (message s)), omega arith, p .put-message .ensures ∙ ap (λ (m : Message). overwrite (messageBytes m) (now (s .args .out))) e)
 
 returns-2 : tie.Need-returns-2
 returns-2 c =
@@ -47,7 +59,7 @@ same-length c =
       value = p .before .message-value .result;
     } in
     ap length (c .before .before .put-message .ensures)
-    ∙ length-overwrite (messageBytes m) (now (p .before .before .before .before .before .before .before .args .out)) (room (p .before .before .before))
+    ∙ length-overwrite (messageBytes m) (now (p .before .before .before .before .before .before .before .args .out)) (rw length-message (room (p .before .before .before)))
 
 pub write-message-spec : {M : Type 1} → statement M
 write-message-spec =
