@@ -9,7 +9,7 @@ use lib.Dec.{leb, eqb}
 use lib.Bits.{bitAnd, and-le-l}
 use Rattle.wire.specs.Lists.{each}
 use Rattle.wire.proofs.Lists.{split, each-intro, each-at}
-use Rattle.label.specs.Label.{bit, flows}
+use Rattle.label.specs.Label.{bit, isSubset}
 use Rattle.label.proofs.Bits.{bit-and, bits-ext}
 
 module _ (n k m : ℕ) (fits : k < 2 ^ n) where
@@ -28,6 +28,6 @@ module _ (n k m : ℕ) (fits : k < 2 ^ n) where
           (λ q. let f = each-intro n (λ o. leb (bit o k) (bit o m)) (λ o l. le-leb (bit o k) (bit o m) (omega (arith, bit-and o k m, ap (bit o) q))) in
           let z : _≡_ {A = ℕ} 0 1 = cc in omega arith)
 
-pub mask-flows : (k m : ℕ) → k < 256 → eqb (bitAnd k m) k ≡ flows k m
-unfolding flows
-mask-flows k m h = mask-subset 8 k m h
+pub mask-test : (k m : ℕ) → k < 256 → eqb (bitAnd k m) k ≡ isSubset k m
+unfolding isSubset
+mask-test k m h = mask-subset 8 k m h

@@ -11,7 +11,7 @@ use lib.Dec.{eqb, leb, leb·zero}
 use lib.Pow.{pow-mono}
 use Rattle.wire.specs.Lists.{each}
 use Rattle.wire.proofs.Lists.{each-intro, each-at, same-tests}
-use Rattle.label.specs.Label.{bit, flows}
+use Rattle.label.specs.Label.{bit, isSubset, flows}
 use Rattle.label.proofs.Bits.{bit-ahead-first, bit-ahead-rest, bits-ext, bit-lt}
 use Rattle.planes.specs.Planes.{labelFrom}
 
@@ -48,7 +48,7 @@ label-test n plane i m h =
 
 -- the label of message i, of four bits, flows to m
 pub label-flows : (plane : ℕ → ℕ) (i m : ℕ) → flows (labelFrom 4 plane i) m ≡ each 4 (λ b. leb (bit i (plane b)) (bit b m))
-unfolding flows
+unfolding isSubset
 label-flows plane i m =
     let k = labelFrom 4 plane i in
     let small = label-lt 4 plane i in
