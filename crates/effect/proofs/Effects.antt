@@ -9,7 +9,7 @@ use borrow.Author.Tests.{le-leb, lt-leb, lt-ltb, ne-eqb}
 use lib.Dec.{ltb, eqb}
 use lib.ListN.{length, set, List·getD-eq-default}
 use lib.Seq.{set-getD}
-use Rattle.label.specs.Label.{flows, join}
+use Rattle.label.specs.Label.{isSubset, flows, join}
 use Rattle.wire.proofs.Lists.{and-both}
 use Rattle.instruction.specs.declared.Instruction.{Instruction}
 use Rattle.instruction.specs.declared.Instruction.the-variants.{End, Set, Copy, Add, Subtract, Go, Zero, Raise, Send, Take, Poll, Sandbox, Identity, Count}
@@ -105,9 +105,19 @@ module _ {s : ℕ} {ss : List Slot} (ready : Ready s ss) where
   unfolding execute
   zero-goes-on a b {x} e z = alone (Zero a b) next (rw (← e, ne-eqb x 0 z))
 
-  pub raise-done : (a : ℕ) {own x : ℕ} → own ≡ taskAt ss s .label → x ≡ join own a → change s (λ t. next (withLabel x t)) ss ≡ executed (Raise a) s ss
-  unfolding execute
-  raise-done a {x = x} e f = alone (Raise a) (λ t. next (withLabel x t)) (rw (f, e))
+  -- x is the label that the raise comes to, and the test is whether it stays within the clearance
+  module _ (a : ℕ) {own x clearance : ℕ} {within : Bool} (label : own ≡ taskAt ss s .label) (raised : x ≡ join own a)
+      (most : clearance ≡ taskAt ss s .clearance) (test : within ≡ isSubset x clearance) where
+    raise-test : isSubset (join (taskAt ss s .label) a) (taskAt ss s .clearance) ≡ within
+    raise-test = rw (← label, ← raised, ← most, ← test)
+
+    pub raise-done : within ≡ true → change s (λ t. next (withLabel x t)) ss ≡ executed (Raise a) s ss
+    unfolding execute
+    raise-done e = alone (Raise a) (λ t. next (withLabel x t)) (rw (raise-test, e, raised, label))
+
+    pub raise-stopped : within ≡ false → set ss s (slotWithKind 6 (slotAt ss s)) ≡ executed (Raise a) s ss
+    unfolding execute
+    raise-stopped e = stops (Raise a) 6 refl (rw (raise-test, e))
 
   pub identity-done : (a b : ℕ) {own : ℕ} → own ≡ taskAt ss s .label
       → change s (λ t. next (withRegister b s (withRegister a own t))) ss ≡ executed (Identity a b) s ss
@@ -166,12 +176,13 @@ module _ {s : ℕ} {ss : List Slot} (ready : Ready s ss) where
   -- ---- new tasks
 
   module _ (a b c : ℕ) {spare : ℕ} (has : spare ≡ taskAt ss s .spare) where
-    pub sandbox-done : {own left child : ℕ} → c ≤ spare → own ≡ taskAt ss s .label → left ≡ spare - c → child ≡ s + left + 1
-        → set (change s (λ t. next (withRegister a child (withSpare left t))) ss) child (used (childOf s own b c)) ≡ executed (Sandbox a b c) s ss
+    pub sandbox-done : {own clearance left child : ℕ} → c ≤ spare → own ≡ taskAt ss s .label → clearance ≡ taskAt ss s .clearance → left ≡ spare - c
+        → child ≡ s + left + 1
+        → set (change s (λ t. next (withRegister a child (withSpare left t))) ss) child (used (childOf s own clearance b c)) ≡ executed (Sandbox a b c) s ss
     unfolding execute
-    sandbox-done {own} {left} {child} enough l e f =
-        with-action (Sandbox a b c) (λ t. next (withRegister a child (withSpare left t))) (spawn child (childOf s own b c))
-        (rw (f, e, l, ← has, le-leb c spare enough))
+    sandbox-done {own} {clearance} {left} {child} enough l m e f =
+        with-action (Sandbox a b c) (λ t. next (withRegister a child (withSpare left t))) (spawn child (childOf s own clearance b c))
+        (rw (f, e, l, m, ← has, le-leb c spare enough))
 
     pub sandbox-stopped : spare < c → set ss s (slotWithKind 5 (slotAt ss s)) ≡ executed (Sandbox a b c) s ss
     unfolding execute
@@ -181,9 +192,9 @@ module _ {s : ℕ} {ss : List Slot} (ready : Ready s ss) where
 
 -- a mailbox of a valid state has room in the table where it has fewer than four messages of a label
 pub valid-room : {s : State} → Valid s → (j l : ℕ) → l ≤ highestLabel → RoomFor l (taskAt (s .slots) j .mailbox)
-valid-room {s} ok j = roomy (slotAt (s .slots) j) (slot-facts (count (s .program)) j (slotAt (s .slots) j) (ok .tasks j))
+valid-room {s} ok j = roomy (slotAt (s .slots) j) (slot-facts (s .version) (count (s .program)) j (slotAt (s .slots) j) (ok .tasks j))
   where
-    roomy : (x : Slot) → SlotFacts (count (s .program)) j x → (l : ℕ) → l ≤ highestLabel → RoomFor l (taskOr x .mailbox)
+    roomy : (x : Slot) → SlotFacts (s .version) (count (s .program)) j x → (l : ℕ) → l ≤ highestLabel → RoomFor l (taskOr x .mailbox)
     roomy unused f l h = (h, λ room. omega arith)
     roomy (used t) f l h = (h, mailbox-room (t .mailbox) (f .mailbox) l h)
 

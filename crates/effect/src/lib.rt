@@ -76,14 +76,18 @@ fn zero(table: &mut table::Table, slot: u8, a: u8, b: u8)
     }
 }
 
-// The task's own label is joined with a.
+// The task's own label is joined with a. Where that leaves the task's clearance, the task gets kind 6 and its label stays.
 fn raise(table: &mut table::Table, slot: u8, a: u8)
     requires { ⌜ Ready slot (slotsIn (now table)) ⌝ }
     ensures { λ _. ⌜ slotsIn (now (table .exit)) ≡ executed (Raise a) slot (slotsIn (now (table .entry))) ⌝ }
 {
-    let own = table::label(table, slot as usize);
-    table::set_label(table, slot as usize, label::join(own, a));
-    advance(table, slot);
+    let raised = label::join(table::label(table, slot as usize), a);
+    if label::is_subset(raised, table::clearance(table, slot as usize)) {
+        table::set_label(table, slot as usize, raised);
+        advance(table, slot);
+    } else {
+        table::set_kind(table, slot as usize, 6);
+    }
 }
 
 // Register a gets the task's own label, then register b its own slot.
@@ -196,12 +200,20 @@ fn count(table: &mut table::Table, slot: u8, a: u8)
 
 // ---- new tasks
 
-// The new task of a sandbox in slot `child`, with the parent's label, and the parent's slot in register 0.
-fn spawn(table: &mut table::Table, child: usize, parent: u8, label: u8, pc: u8, size: u8)
+// The new task of a sandbox in slot `child`, with the parent's label and clearance, and the parent's slot in register 0.
+fn spawn(
+    table: &mut table::Table,
+    child: usize,
+    parent: u8,
+    label: u8,
+    clearance: u8,
+    pc: u8,
+    size: u8,
+)
     requires { ⌜ (child < 16) × (1 ≤ size) ⌝ }
-    ensures { λ _. ⌜ slotsIn (now (table .exit)) ≡ set (slotsIn (now (table .entry))) child (used (childOf parent label pc size)) ⌝ }
+    ensures { λ _. ⌜ slotsIn (now (table .exit)) ≡ set (slotsIn (now (table .entry))) child (used (childOf parent label clearance pc size)) ⌝ }
 {
-    table::put_task(table, child, 1, label, size - 1, pc as u32);
+    table::put_task(table, child, 1, label, clearance, size - 1, pc as u32);
     table::set_register(table, child, 0, parent as u32);
 }
 
@@ -213,11 +225,12 @@ fn sandbox(table: &mut table::Table, slot: u8, a: u8, b: u8, c: u8)
     let spare = table::spare(table, slot as usize);
     if c <= spare {
         let own = table::label(table, slot as usize);
+        let clearance = table::clearance(table, slot as usize);
         let left = spare - c;
         let child = (slot as u32) + (left as u32) + 1;
         table::set_spare(table, slot as usize, left);
         gets(table, slot, a, child);
-        spawn(table, child as usize, slot, own, b, c);
+        spawn(table, child as usize, slot, own, clearance, b, c);
     } else {
         table::set_kind(table, slot as usize, 5);
     }

@@ -2,34 +2,39 @@
 use Prim.Native.Nat.{ℕ, _+_, _*_, _-_, _/_, _%_, _^_, _<_, _≤_}
 use mathlib.Core.Logic.{_≢_}
 use mathlib.Core.Path.{_≡_, refl, sym, ap, ap₂, _∙_}
+use mathlib.Core.Bool.{Bool, true, false, cond, _||_}
 use mathlib.Core.List.{List, [], _∷_, _++_, append-nil}
 use native.Mathlib.Omega.{arith}
+use borrow.Author.Tests.{eqb-true}
+use lib.Dec.{eqb}
 use lib.ListN.{length, take, drop, length-append, length-drop, take-append-drop}
 use lib.Seq.{take-all, drop-at}
 use Rattle.wire.specs.Lists.{Bytes, Every}
 use Rattle.wire.proofs.Lists.{IsByte, length-nil, every-drop, every-append}
 use Rattle.wire.specs.Numbers.{encodeNumber}
 use Rattle.wire.specs.Items.{decodeItems, encodeItems}
-use Rattle.wire.specs.Fields.{decodeFields, encodeFields}
+use Rattle.wire.specs.Fields.{size, decodeFields, encodeFields}
 use Rattle.wire.proofs.Items.{every-decode, items-back, items-forth, length-items, items-bytes}
 use Rattle.wire.proofs.Numbers.{length-encode}
-use Rattle.wire.proofs.Fields.{Fit, length-fields, fields-back, fields-forth, fields-fit, fields-bytes, numbers-fit, fit-numbers}
+use Rattle.wire.proofs.Fields.{Holds, Fit, length-fields, fields-back, fields-forth, fields-fit, fields-bytes, numbers-fit, fit-numbers}
+use Rattle.machine.specs.Version.{hasClearances}
 use Rattle.machine.specs.State.{Message, Task, Slot, unused, used}
 use Rattle.machine.specs.Valid.{fieldsInRange, mailInRange, ValidTask, ValidSlot}
-use Rattle.machine.proofs.Rules.{MessageFacts, task-facts}
+use Rattle.machine.proofs.Rules.{MessageFacts, six-kinds, task-facts}
 use Rattle.image.specs.Format.{taskFields, messageFields, taskSize, messageSize}
 use Rattle.image.specs.Refusal.{unless, recordNumber}
 use Rattle.image.specs.Record.{messageNumbers, messageFrom, taskNumbers, taskFrom, messageOf, mailboxOf, taskOf, slotOf, messageBytes, taskBytes, recordBytes}
 use Rattle.image.proofs.Refusal.{then-left, then-right, unless-none}
+use Rattle.image.proofs.Offsets.{task-size}
 
 -- ---- an unused slot has no record
 
-pub slot-none : (r : List ℕ) → length r ≡ 0 → slotOf r ≡ unused
-slot-none r e = rw (length-nil r e)
+pub slot-none : (v : ℕ) (r : List ℕ) → length r ≡ 0 → slotOf v r ≡ unused
+slot-none v r e = rw (length-nil r e)
 
-pub slot-some : (r : List ℕ) → length r ≢ 0 → slotOf r ≡ used (taskOf r)
-slot-some [] h = absurd (h refl)
-slot-some (x ∷ r) h = refl
+pub slot-some : (v : ℕ) (r : List ℕ) → length r ≢ 0 → slotOf v r ≡ used (taskOf v r)
+slot-some v [] h = absurd (h refl)
+slot-some v (x ∷ r) h = refl
 
 -- ---- bytes to a task and back
 
@@ -42,12 +47,13 @@ mailbox-back b h e =
     items-back messageSize messageOf messageBytes message-back (length b / messageSize) b h (omega arith)
     ∙ take-all (messageSize * (length b / messageSize)) b (omega arith)
 
-pub task-back : (r : List ℕ) → Bytes r → taskSize ≤ length r → (length r - taskSize) % messageSize ≡ 0 → taskBytes (taskOf r) ≡ r
-unfolding decodeFields
-task-back r h l e =
-    let m : length (drop taskSize r) % messageSize ≡ 0 = simp length-drop (omega arith) in
-    ap₂ (λ (p q : List ℕ). p ++ q) (fields-back taskFields r h l) (mailbox-back (drop taskSize r) (every-drop IsByte taskSize r h) m)
-    ∙ take-append-drop taskSize r
+pub task-back : (v : ℕ) (r : List ℕ) → Bytes r → taskSize v ≤ length r → (length r - taskSize v) % messageSize ≡ 0 → taskBytes v (taskOf v r) ≡ r
+unfolding decodeFields taskSize
+task-back v r h l e =
+    let n = taskSize v in
+    let m : length (drop n r) % messageSize ≡ 0 = simp length-drop (omega arith) in
+    ap₂ (λ (p q : List ℕ). p ++ q) (fields-back (taskFields v) r h l) (mailbox-back (drop n r) (every-drop IsByte n r h) m)
+    ∙ take-append-drop n r
 
 -- ---- a task to bytes and back
 
@@ -71,29 +77,43 @@ mailbox-forth ms h =
 pub length-registers : (xs : List ℕ) → length (encodeItems (encodeNumber 4) xs) ≡ 4 * length xs
 length-registers = length-items (encodeNumber 4) 4 (length-encode 4)
 
-pub task-length : (t : Task) → length (taskBytes t) ≡ taskSize + messageSize * length (t .mailbox)
-task-length t = rw (length-append, length-fields, length-mailbox)
+pub task-length : (v : ℕ) (t : Task) → length (taskBytes v t) ≡ taskSize v + messageSize * length (t .mailbox)
+unfolding taskSize
+task-length v t = rw (length-append, length-fields, length-mailbox)
 
-module _ (n s : ℕ) (t : Task) (few : n ≤ 256) (ok : ValidTask n s t) where
+-- a clearance that fits the version, and one that its field holds
+clearance-holds : (b : Bool) (x : ℕ) → x ≤ 15 → (b || eqb x 15) ≡ true → Holds 15 (cond b 1 0) x
+clearance-holds true x h e = omega arith
+clearance-holds false x h e = eqb-true x 15 e
+
+holds-clearance : (b : Bool) (x : ℕ) → Holds 15 (cond b 1 0) x → (b || eqb x 15) ≡ true
+holds-clearance true x h = refl
+holds-clearance false x h = rw h
+
+module _ (v n s : ℕ) (t : Task) (few : n ≤ 256) (ok : ValidTask v n s t) where
   -- the fields hold a valid task's numbers
-  task-fit : Fit taskFields (taskNumbers t)
+  task-fit : Fit (taskFields v) (taskNumbers t)
   task-fit =
-      let f = task-facts n s t ok in
-      (omega (arith, f .kind-high), (omega (arith, f .label), (omega (arith, f .spare), (omega (arith, f .pc), numbers-fit 3 8 (t .registers) (ok .registers) (ok .words)))))
+      let f = task-facts v n s t ok in
+      let kind : t .kind < 256 = omega (arith, f .kind-high, six-kinds v) in
+      let clearance = clearance-holds (hasClearances v) (t .clearance) (f .clearance .high) (f .clearance .fits) in
+      (kind, (omega (arith, f .label), (clearance, (omega (arith, f .spare), (omega (arith, f .pc), numbers-fit 3 8 (t .registers) (ok .registers) (ok .words))))))
 
-  task-forth : taskOf (taskBytes t) ≡ t
+  task-forth : taskOf v (taskBytes v t) ≡ t
+  unfolding taskSize
   task-forth =
-      let head = encodeFields taskFields (taskNumbers t) in
+      let fs = taskFields v in
+      let head = encodeFields fs (taskNumbers t) in
       let mail = encodeItems messageBytes (t .mailbox) in
-      ap₂ taskFrom (fields-forth taskFields (taskNumbers t) mail task-fit)
-      (ap mailboxOf (drop-at head mail taskSize (length-fields taskFields (taskNumbers t))) ∙ mailbox-forth (t .mailbox) (task-facts n s t ok .mailbox .each))
+      ap₂ taskFrom (fields-forth fs (taskNumbers t) mail task-fit)
+      (ap mailboxOf (drop-at head mail (size fs) (length-fields fs (taskNumbers t))) ∙ mailbox-forth (t .mailbox) (task-facts v n s t ok .mailbox .each))
 
 -- ---- every task's record consists of bytes
 
-pub record-bytes : (x : Slot) → Bytes (recordBytes x)
-record-bytes unused = tt
-record-bytes (used t) =
-    every-append IsByte (encodeFields taskFields (taskNumbers t)) (encodeItems messageBytes (t .mailbox)) (fields-bytes taskFields (taskNumbers t))
+pub record-bytes : (v : ℕ) (x : Slot) → Bytes (recordBytes v x)
+record-bytes v unused = tt
+record-bytes v (used t) =
+    every-append IsByte (encodeFields (taskFields v) (taskNumbers t)) (encodeItems messageBytes (t .mailbox)) (fields-bytes (taskFields v) (taskNumbers t))
     (items-bytes messageBytes (λ m. fields-bytes messageFields (messageNumbers m)) (t .mailbox))
 
 -- ---- a record with no number holds a valid task
@@ -102,31 +122,34 @@ values-low : (b : List ℕ) → Bytes b → messageOf b .value < 2 ^ 32
 unfolding decodeFields
 values-low b h = fields-fit messageFields b h .1 .1 .0
 
-pub record-valid : (s n : ℕ) (r : List ℕ) → Bytes r → recordNumber s n (slotOf r) ≡ 0 → ValidSlot n s (slotOf r)
+pub record-valid : (v s n : ℕ) (r : List ℕ) → Bytes r → recordNumber v s n (slotOf v r) ≡ 0 → ValidSlot v n s (slotOf v r)
 unfolding decodeFields
-record-valid s n [] h e = tt
-record-valid s n (x ∷ q) h e =
+record-valid v s n [] h e = tt
+record-valid v s n (x ∷ q) h e =
     let r = x ∷ q in
-    let registers = fit-numbers 3 8 (taskOf r .registers) (fields-fit taskFields r h .1 .1 .1 .1) in
+    let t = taskOf v r in
+    let fit = fields-fit (taskFields v) r h in
+    let registers = fit-numbers 3 8 (t .registers) (fit .1 .1 .1 .1 .1) in
     record {
-      fields = unless-none (fieldsInRange s n (taskOf r)) 8 (then-left _ _ e);
-      mail = unless-none (mailInRange (taskOf r .mailbox)) 9 (then-right (unless (fieldsInRange s n (taskOf r)) 9) _ e);
+      fields = unless-none (fieldsInRange v s n t) 8 (then-left _ _ e);
+      clearance = holds-clearance (hasClearances v) (t .clearance) (fit .1 .1 .0);
+      mail = unless-none (mailInRange (t .mailbox)) 9 (then-right (unless (fieldsInRange v s n t) 9) _ e);
       registers = registers .0;
       words = registers .1;
       values =
-          every-decode messageSize messageOf (λ (m : Message). m .value < 2 ^ 32) values-low (length (drop taskSize r) / messageSize) (drop taskSize r)
-          (every-drop IsByte taskSize r h);
+          every-decode messageSize messageOf (λ (m : Message). m .value < 2 ^ 32) values-low (length (drop (taskSize v) r) / messageSize) (drop (taskSize v) r)
+          (every-drop IsByte (taskSize v) r h);
     }
 
 -- ---- and a valid task gives none
 
-pub valid-record : (s n : ℕ) (x : Slot) → ValidSlot n s x → recordNumber s n x ≡ 0
-valid-record s n unused ok = refl
-valid-record s n (used t) ok = rw (ok .fields, ok .mail)
+pub valid-record : (v s n : ℕ) (x : Slot) → ValidSlot v n s x → recordNumber v s n x ≡ 0
+valid-record v s n unused ok = refl
+valid-record v s n (used t) ok = rw (ok .fields, ok .mail)
 
 -- ---- slots
 
-pub slot-forth : (n s : ℕ) (x : Slot) → n ≤ 256 → ValidSlot n s x → slotOf (recordBytes x) ≡ x
-slot-forth n s unused h ok = refl
-slot-forth n s (used t) h ok =
-    slot-some (taskBytes t) (λ e. omega (arith, task-length t)) ∙ ap used (task-forth n s t h ok)
+pub slot-forth : (v n s : ℕ) (x : Slot) → n ≤ 256 → ValidSlot v n s x → slotOf v (recordBytes v x) ≡ x
+slot-forth v n s unused h ok = refl
+slot-forth v n s (used t) h ok =
+    slot-some v (taskBytes v t) (λ e. omega (arith, task-length v t, task-size v)) ∙ ap used (task-forth v n s t h ok)

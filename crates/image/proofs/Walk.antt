@@ -16,10 +16,10 @@ skip-next zero b = refl
 skip-next (suc k) b = let e : suc k + 1 ≡ suc (k + 1) = omega arith in rw e (skip-next k (behind b))
 
 -- the first of the slots that are left, and none left
-pub slots-first : (s n : ℕ) (b : List ℕ) → s < 16 → slotsNumber (16 - s) s n b ≡ (slotNumber s n b then slotsNumber (16 - (s + 1)) (s + 1) n (behind b))
+pub slots-first : (v s n : ℕ) (b : List ℕ) → s < 16 → slotsNumber v (16 - s) s n b ≡ (slotNumber v s n b then slotsNumber v (16 - (s + 1)) (s + 1) n (behind b))
 unfolding slotsNumber
-slots-first s n b h = let e : 16 - s ≡ suc (16 - (s + 1)) = omega arith in rw e
+slots-first v s n b h = let e : 16 - s ≡ suc (16 - (s + 1)) = omega arith in rw e
 
-pub slots-done : (s n : ℕ) (b : List ℕ) → 16 ≤ s → slotsNumber (16 - s) s n b ≡ 0
+pub slots-done : (v s n : ℕ) (b : List ℕ) → 16 ≤ s → slotsNumber v (16 - s) s n b ≡ 0
 unfolding slotsNumber
-slots-done s n b h = let e : 16 - s ≡ 0 = omega arith in rw e
+slots-done v s n b h = let e : 16 - s ≡ 0 = omega arith in rw e

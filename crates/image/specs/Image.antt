@@ -11,24 +11,28 @@ use Rattle.image.specs.Record.{slotOf, recordBytes}
 
 -- ---- ahead of the slots: the front's fields, the program, turn slot (1)
 
+-- the first byte, by which everything else is read
+unfoldable pub versionOf : List ℕ → ℕ
+versionOf b = getD b 0 0
+
 unfoldable pub front : List ℕ → List ℕ
-front b = decodeFields frontFields b
+front b = decodeFields (frontFields (versionOf b)) b
 
 abbrev pub programLength : List ℕ → ℕ
 programLength b = getD (front b) 1 0
 
 -- where the program, the turn slot and slot 0 begin
-abbrev pub programAt : ℕ
-programAt = size frontFields
+abbrev pub programAt : ℕ → ℕ
+programAt v = size (frontFields v)
 
 abbrev pub turnSlotAt : List ℕ → ℕ
-turnSlotAt b = programAt + programLength b
+turnSlotAt b = programAt (versionOf b) + programLength b
 
 abbrev pub slotsAt : List ℕ → ℕ
 slotsAt b = turnSlotAt b + 1
 
 abbrev pub programOf : List ℕ → List ℕ
-programOf b = take (programLength b) (drop programAt b)
+programOf b = take (programLength b) (drop (programAt (versionOf b)) b)
 
 abbrev pub turnSlotOf : List ℕ → ℕ
 turnSlotOf b = getD b (turnSlotAt b) 0
@@ -58,24 +62,25 @@ unfoldable pub skip : ℕ → List ℕ → List ℕ
 skip zero b = b
 skip (suc k) b = skip k (behind b)
 
--- the first k slots
-unfoldable pub slotsOf : ℕ → List ℕ → List Slot
-slotsOf zero b = []
-slotsOf (suc k) b = slotOf (recordOf b) ∷ slotsOf k (behind b)
+-- the first k slots, in an image of version v
+unfoldable pub slotsOf : ℕ → ℕ → List ℕ → List Slot
+slotsOf v zero b = []
+slotsOf v (suc k) b = slotOf v (recordOf b) ∷ slotsOf v k (behind b)
 
 -- ---- the state in an accepted image
 
 unfoldable pub stateOf : List ℕ → State
-stateOf b = record { program = programOf b; turnSlot = turnSlotOf b; slots = slotsOf 16 (slotsPart b) }
+stateOf b =
+    record { version = versionOf b; program = programOf b; turnSlot = turnSlotOf b; slots = slotsOf (versionOf b) 16 (slotsPart b) }
 
 -- ---- a state to bytes
 
-abbrev pub slotBytes : Slot → List ℕ
-slotBytes x = encodeNumber 2 (length (recordBytes x)) ++ recordBytes x
+abbrev pub slotBytes : ℕ → Slot → List ℕ
+slotBytes v x = encodeNumber 2 (length (recordBytes v x)) ++ recordBytes v x
 
 -- what stands ahead of the slots
-unfoldable pub aheadBytes : List ℕ → ℕ → List ℕ
-aheadBytes program turnSlot = encodeFields frontFields (1 ∷ length program ∷ []) ++ program ++ (turnSlot ∷ [])
+unfoldable pub aheadBytes : ℕ → List ℕ → ℕ → List ℕ
+aheadBytes v program turnSlot = encodeFields (frontFields v) (v ∷ length program ∷ []) ++ program ++ (turnSlot ∷ [])
 
 unfoldable pub imageBytes : State → List ℕ
-imageBytes state = aheadBytes (state .program) (state .turnSlot) ++ encodeItems slotBytes (state .slots)
+imageBytes state = aheadBytes (state .version) (state .program) (state .turnSlot) ++ encodeItems (slotBytes (state .version)) (state .slots)

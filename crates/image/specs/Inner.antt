@@ -6,6 +6,7 @@ use lib.Dec.{leb, eqb}
 use lib.ListN.{take}
 use Rattle.wire.specs.Fields.{encodeFields}
 use Rattle.machine.specs.Limits.{highestSlot}
+use Rattle.machine.specs.Version.{hasClearances}
 use Rattle.image.specs.Format.{taskFields}
 use Rattle.image.specs.Image.{slotsPart, skip}
 use Rattle.image.specs.Refusal.{imageNumber}
@@ -14,6 +15,10 @@ use Rattle.image.specs.Refusal.{imageNumber}
 unfoldable pub fromSlot : List ℕ → ℕ → List ℕ
 fromSlot b s = cond (leb s highestSlot && eqb (imageNumber b) 0) (skip s (slotsPart b)) []
 
--- the bytes of a task's fields ahead of its registers, which hold these numbers
-abbrev pub headBytes : List ℕ → List ℕ
-headBytes xs = encodeFields (take 4 taskFields) xs
+-- the bytes of a task's fields ahead of its registers, which hold these numbers, in an image of version v
+abbrev pub headBytes : ℕ → List ℕ → List ℕ
+headBytes v xs = encodeFields (take 5 (taskFields v)) xs
+
+-- how many bytes the clearance has
+abbrev pub clearanceWidth : ℕ → ℕ
+clearanceWidth v = cond (hasClearances v) 1 0

@@ -16,11 +16,11 @@ abbrev pub messageFrom : List ℕ → Message
 messageFrom xs = record { label = getD xs 0 0; sender = getD xs 1 0; value = getD xs 2 0 }
 
 abbrev pub taskNumbers : Task → List ℕ
-taskNumbers t = t .kind ∷ t .label ∷ t .spare ∷ t .pc ∷ t .registers
+taskNumbers t = t .kind ∷ t .label ∷ t .clearance ∷ t .spare ∷ t .pc ∷ t .registers
 
 abbrev pub taskFrom : List ℕ → List Message → Task
 taskFrom xs ms =
-    record { kind = getD xs 0 0; label = getD xs 1 0; spare = getD xs 2 0; pc = getD xs 3 0; registers = drop 4 xs; mailbox = ms }
+    record { kind = getD xs 0 0; label = getD xs 1 0; clearance = getD xs 2 0; spare = getD xs 3 0; pc = getD xs 4 0; registers = drop 5 xs; mailbox = ms }
 
 -- ---- bytes to a task
 
@@ -30,23 +30,23 @@ messageOf b = messageFrom (decodeFields messageFields b)
 abbrev pub mailboxOf : List ℕ → List Message
 mailboxOf b = decodeItems messageSize messageOf (length b / messageSize) b
 
--- its fields, and the messages behind them
-abbrev pub taskOf : List ℕ → Task
-taskOf r = taskFrom (decodeFields taskFields r) (mailboxOf (drop taskSize r))
+-- its fields, and the messages behind them, in an image of version v
+abbrev pub taskOf : ℕ → List ℕ → Task
+taskOf v r = taskFrom (decodeFields (taskFields v) r) (mailboxOf (drop (taskSize v) r))
 
 -- an unused slot has no record
-abbrev pub slotOf : List ℕ → Slot
-slotOf [] = unused
-slotOf (x ∷ r) = used (taskOf (x ∷ r))
+abbrev pub slotOf : ℕ → List ℕ → Slot
+slotOf v [] = unused
+slotOf v (x ∷ r) = used (taskOf v (x ∷ r))
 
 -- ---- a task to bytes
 
 abbrev pub messageBytes : Message → List ℕ
 messageBytes m = encodeFields messageFields (messageNumbers m)
 
-abbrev pub taskBytes : Task → List ℕ
-taskBytes t = encodeFields taskFields (taskNumbers t) ++ encodeItems messageBytes (t .mailbox)
+abbrev pub taskBytes : ℕ → Task → List ℕ
+taskBytes v t = encodeFields (taskFields v) (taskNumbers t) ++ encodeItems messageBytes (t .mailbox)
 
-abbrev pub recordBytes : Slot → List ℕ
-recordBytes unused = []
-recordBytes (used t) = taskBytes t
+abbrev pub recordBytes : ℕ → Slot → List ℕ
+recordBytes v unused = []
+recordBytes v (used t) = taskBytes v t

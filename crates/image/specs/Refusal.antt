@@ -5,16 +5,17 @@ use Prim.Native.Nat.{ℕ, zero, suc, _+_, _-_, _/_, _%_}
 use mathlib.Core.Bool.{Bool, true, false, _&&_, _||_}
 use mathlib.Core.List.{List}
 use lib.Dec.{leb, eqb}
-use lib.ListN.{length, getD}
+use lib.ListN.{length}
 use Rattle.instruction.specs.declared.Decoded.{Decoded}
 use Rattle.instruction.specs.declared.Decoded.the-variants.{Legal, Illegal}
 use Rattle.instruction.specs.Program.{count, instructionAt}
 use Rattle.machine.specs.Limits.{highestLabel, highestSlot, mostMessages, turnLimit}
+use Rattle.machine.specs.Version.{isVersion}
 use Rattle.machine.specs.State.{Slot, unused, used}
 use Rattle.machine.specs.Valid.{isProgramLength, fieldsInRange, mailInRange, sparesUnused}
 use Rattle.image.specs.Format.{taskSize, messageSize}
 use Rattle.image.specs.Record.{slotOf}
-use Rattle.image.specs.Image.{programAt, programLength, programOf, turnSlotAt, turnSlotOf, slotsAt, slotsPart, recordLength, recordOf, behind, skip, slotsOf}
+use Rattle.image.specs.Image.{versionOf, programAt, programLength, programOf, turnSlotAt, turnSlotOf, slotsAt, slotsPart, recordLength, recordOf, behind, skip, slotsOf}
 
 -- ---- "The first met is given": 0 is none
 
@@ -49,9 +50,9 @@ postNumber slot label = unless (leb slot highestSlot) 14 then unless (leb label 
 abbrev pub short : ℕ → List ℕ → ℕ
 short n b = unless (leb n (length b)) 3
 
--- 4 version: first byte isn't 1
+-- 4 version: first byte is neither 1 nor 2
 unfoldable pub versionNumber : List ℕ → ℕ
-versionNumber b = short 1 b then unless (eqb (getD b 0 0) 1) 4
+versionNumber b = short 1 b then unless (isVersion (versionOf b)) 4
 
 -- 6 instruction, behind 5 in `programNumber`: not in the table, or an operand outside it
 abbrev pub decodedNumber : Decoded → ℕ
@@ -66,7 +67,7 @@ instructionsNumber (suc k) program = instructionsNumber k program then decodedNu
 -- 5 program length: no multiple of 4 from 4 to 1,024; then the program whole, and its instructions
 unfoldable pub programNumber : List ℕ → ℕ
 programNumber b =
-    short programAt b
+    short (programAt (versionOf b)) b
     then unless (isProgramLength (programLength b)) 5
     then short (turnSlotAt b) b
     then instructionsNumber (count (programOf b)) (programOf b)
@@ -75,30 +76,34 @@ programNumber b =
 unfoldable pub turnSlotNumber : List ℕ → ℕ
 turnSlotNumber b = short (slotsAt b) b then unless (leb (turnSlotOf b) highestSlot) 7
 
--- ---- "per slot 8, 3, 9, 10"
+-- ---- "per slot 8, 3, 9, 10", in an image of version v
 
--- 8 record length: neither 0 nor 37 + 6 × k, k at most 64
-unfoldable pub isRecordLength : ℕ → Bool
-isRecordLength l = eqb l 0 || (leb taskSize l && eqb ((l - taskSize) % messageSize) 0 && leb ((l - taskSize) / messageSize) mostMessages)
+-- 8 record length: neither 0 nor that of a task and k messages, k at most 64: 37 + 6 × k in version 1, 38 + 6 × k in version 2
+unfoldable pub isRecordLength : ℕ → ℕ → Bool
+isRecordLength v l =
+    eqb l 0 || (leb (taskSize v) l && eqb ((l - taskSize v) % messageSize) 0 && leb ((l - taskSize v) / messageSize) mostMessages)
 
--- 9 task field: kind, label, place out of range, or s + spare above 15;
+-- the length of the slot at the front of b, and that its record is there
+unfoldable pub lengthNumber : ℕ → List ℕ → ℕ
+lengthNumber v b =
+    short 2 b
+    then unless (isRecordLength v (recordLength b)) 8
+    then short (2 + recordLength b) b
+
+-- 9 task field: kind, label, clearance, place out of range, the label not within the clearance, or s + spare above 15;
 -- 10 mail: message label above 15 or sender above 16, or five or more of one label
-abbrev pub recordNumber : ℕ → ℕ → Slot → ℕ
-recordNumber s n unused = 0
-recordNumber s n (used t) = unless (fieldsInRange s n t) 9 then unless (mailInRange (t .mailbox)) 10
+abbrev pub recordNumber : ℕ → ℕ → ℕ → Slot → ℕ
+recordNumber v s n unused = 0
+recordNumber v s n (used t) = unless (fieldsInRange v s n t) 9 then unless (mailInRange (t .mailbox)) 10
 
 -- slot s, at the front of b, of an image with n instructions
-unfoldable pub slotNumber : ℕ → ℕ → List ℕ → ℕ
-slotNumber s n b =
-    short 2 b
-    then unless (isRecordLength (recordLength b)) 8
-    then short (2 + recordLength b) b
-    then recordNumber s n (slotOf (recordOf b))
+unfoldable pub slotNumber : ℕ → ℕ → ℕ → List ℕ → ℕ
+slotNumber v s n b = lengthNumber v b then recordNumber v s n (slotOf v (recordOf b))
 
 -- k slots from slot s on
-unfoldable pub slotsNumber : ℕ → ℕ → ℕ → List ℕ → ℕ
-slotsNumber zero s n b = 0
-slotsNumber (suc k) s n b = slotNumber s n b then slotsNumber k (s + 1) n (behind b)
+unfoldable pub slotsNumber : ℕ → ℕ → ℕ → ℕ → List ℕ → ℕ
+slotsNumber v zero s n b = 0
+slotsNumber v (suc k) s n b = slotNumber v s n b then slotsNumber v k (s + 1) n (behind b)
 
 -- ---- "Then 11, 12, 13"
 
@@ -108,7 +113,7 @@ tailNumber b = unless (eqb (length (skip 16 (slotsPart b))) 0) 11
 
 -- 12 estate: a used slot lies in another task's spare
 unfoldable pub estateNumber : List ℕ → ℕ
-estateNumber b = unless (sparesUnused (slotsOf 16 (slotsPart b))) 12
+estateNumber b = unless (sparesUnused (slotsOf (versionOf b) 16 (slotsPart b))) 12
 
 -- the number of an image: the first that is met, and 0 where it is accepted
 unfoldable pub imageNumber : List ℕ → ℕ
@@ -116,7 +121,7 @@ imageNumber b =
     versionNumber b
     then programNumber b
     then turnSlotNumber b
-    then slotsNumber 16 0 (count (programOf b)) (slotsPart b)
+    then slotsNumber (versionOf b) 16 0 (count (programOf b)) (slotsPart b)
     then tailNumber b
     then estateNumber b
 

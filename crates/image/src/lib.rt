@@ -1,8 +1,11 @@
 // The image of all tasks: its layout, and its parts.
-ghost use Prim.Native.Nat.{_<_};
+ghost use Prim.Native.Nat.{_<_, _≤_};
 ghost use mathlib.Core.Path.{_≡_};
 ghost use Rattle.machine.specs.Valid.{isProgramLength};
-ghost use Rattle.image.specs.Image.{programLength, programOf, turnSlotOf, slotsPart, recordLength, recordOf, behind, skip};
+ghost use Rattle.image.specs.Format.{taskSize};
+ghost use Rattle.image.specs.Record.{taskOf};
+ghost use Rattle.image.specs.Image.{versionOf, programLength, programOf, turnSlotOf, slotsPart, recordLength, recordOf, behind, skip};
+ghost use Rattle.image.specs.Inner.{clearanceWidth};
 
 // ---- the layout: where the fields begin, in an image and in a record, and the size of a message
 
@@ -12,15 +15,43 @@ pub const KIND_AT: usize = 0;
 
 pub const LABEL_AT: usize = 1;
 
+pub const CLEARANCE_AT: usize = 2;
+
+// Where the fields behind the clearance begin if it has no byte; else each begins `clearance_width` further on.
 pub const SPARE_AT: usize = 2;
 
 pub const PC_AT: usize = 3;
 
 pub const REGISTERS_AT: usize = 5;
 
-pub const MAILBOX_AT: usize = 37;
+const MAILBOX_AT: usize = 37;
 
 pub const MESSAGE_SIZE: usize = 6;
+
+// How many bytes the clearance has in an image of this version.
+pub fn clearance_width(version: u8) -> usize
+    ensures { λ r. ⌜ (r ≡ clearanceWidth version) × (r ≤ 1) ⌝ }
+{
+    if version < 2 { 0 } else { 1 }
+}
+
+// How many bytes a task has ahead of its messages, in an image of this version.
+pub fn task_size(version: u8) -> usize
+    ensures { λ r. ⌜ (r ≡ taskSize version) × (r ≤ 38) ⌝ }
+{
+    MAILBOX_AT + clearance_width(version)
+}
+
+// The clearance in a record, 15 where it has no byte.
+pub fn clearance(version: u8, task: &[u8]) -> u8
+    ensures { λ r. ⌜ r ≡ taskOf version (now (task .entry)) .clearance ⌝ }
+{
+    if version < 2 {
+        15
+    } else {
+        wire::byte_at(task, CLEARANCE_AT)
+    }
+}
 
 // The sender of a message that the host posted, and the highest of all.
 pub const HOST: u8 = 16;
@@ -31,6 +62,13 @@ pub const HOST: u8 = 16;
 pub struct Extent {
     pub start: usize,
     pub length: usize,
+}
+
+// The version, by which everything else is read.
+pub fn version(image: &[u8]) -> u8
+    ensures { λ r. ⌜ r ≡ versionOf (now (image .entry)) ⌝ }
+{
+    wire::byte_at(image, 0)
 }
 
 // A multiple of 4 from 4 to 1,024.

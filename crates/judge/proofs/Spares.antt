@@ -17,6 +17,7 @@ use Rattle.machine.specs.Valid.{sparesUnused}
 use Rattle.machine.proofs.Rules.{SparesFree, spares-free, spares-test}
 use Rattle.image.specs.Record.{slotOf}
 use Rattle.image.specs.Image.{recordOf, skip, slotsOf}
+use Rattle.image.specs.Inner.{clearanceWidth}
 use Rattle.image.proofs.Offsets.{task-at}
 use Rattle.image.proofs.Slots.{slot-at}
 
@@ -86,17 +87,18 @@ module _ (ss : List Slot) where
 
 -- ---- a slot as its record shows it
 
-unused-empty : (r : List ℕ) → isUnused (slotOf r) ≡ eqb (length r) 0
-unused-empty [] = refl
-unused-empty (x ∷ r) = sym (eqb·suc-zero (length r))
+module _ (v : ℕ) where
+  unused-empty : (r : List ℕ) → isUnused (slotOf v r) ≡ eqb (length r) 0
+  unused-empty [] = refl
+  unused-empty (x ∷ r) = sym (eqb·suc-zero (length r))
 
-spare-byte : (r : List ℕ) → spareOf (slotOf r) ≡ getD r 2 0
-spare-byte [] = refl
-spare-byte (x ∷ r) = task-at (x ∷ r) .spare
+  spare-byte : (r : List ℕ) → spareOf (slotOf v r) ≡ getD r (2 + clearanceWidth v) 0
+  spare-byte [] = refl
+  spare-byte (x ∷ r) = task-at v (x ∷ r) .spare
 
-module _ (b : List ℕ) (s : ℕ) (h : s < 16) where
-  pub clear-at : isClear (slotsOf 16 b) s ≡ eqb (length (recordOf (skip s b))) 0 || leb (freeFrom (slotsOf 16 b) s) s
-  clear-at = rw (slot-at 16 s b h, unused-empty)
+  module _ (b : List ℕ) (s : ℕ) (h : s < 16) where
+    pub clear-at : isClear (slotsOf v 16 b) s ≡ eqb (length (recordOf (skip s b))) 0 || leb (freeFrom (slotsOf v 16 b) s) s
+    clear-at = rw (slot-at v 16 s b h, unused-empty)
 
-  pub free-at : freeFrom (slotsOf 16 b) (s + 1) ≡ max (freeFrom (slotsOf 16 b) s) (s + getD (recordOf (skip s b)) 2 0 + 1)
-  free-at = free-next (slotsOf 16 b) s ∙ rw (slot-at 16 s b h, spare-byte)
+    pub free-at : freeFrom (slotsOf v 16 b) (s + 1) ≡ max (freeFrom (slotsOf v 16 b) s) (s + getD (recordOf (skip s b)) (2 + clearanceWidth v) 0 + 1)
+    free-at = free-next (slotsOf v 16 b) s ∙ rw (slot-at v 16 s b h, spare-byte)

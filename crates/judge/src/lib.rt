@@ -4,11 +4,12 @@ ghost use mathlib.Core.Path.{_≡_};
 ghost use denote.Ref.{ptr};
 ghost use Rattle.wire.specs.Slices.{offsetBy};
 ghost use Rattle.instruction.specs.Program.{count};
+ghost use Rattle.machine.specs.Limits.{highestKind};
 ghost use Rattle.machine.specs.Valid.{mailInRange, fieldsInRange, sparesUnused};
 ghost use Rattle.image.specs.Record.{taskOf, slotOf};
 ghost use Rattle.image.specs.Image.{slotsOf};
 ghost use Rattle.image.specs.Refusal.{_then_, unless, versionNumber, instructionsNumber, programNumber, turnSlotNumber};
-ghost use Rattle.image.specs.Refusal.{isRecordLength, recordNumber, slotNumber, slotsNumber, tailNumber, estateNumber, imageNumber};
+ghost use Rattle.image.specs.Refusal.{isRecordLength, lengthNumber, recordNumber, slotNumber, slotsNumber, tailNumber, estateNumber, imageNumber};
 ghost use Rattle.image.specs.Inner.{fromSlot};
 ghost use Rattle.image.specs.Part.{recordPart, recordExtent};
 
@@ -27,7 +28,8 @@ fn version_number(image: &[u8]) -> u8
     if image.len() < 1 {
         return 3;
     }
-    unless(wire::byte_at(image, 0) == 1, 4)
+    let version = image::version(image);
+    unless((1 <= version) & (version <= 2), 4)
 }
 
 // The instructions of a program's bytes.
@@ -78,35 +80,50 @@ fn head_number(image: &[u8]) -> u8
     turn_slot_number(image)
 }
 
-// 0, or 37 + 6 × k, k at most 64.
-fn is_record_length(l: usize) -> bool
-    ensures { λ r. ⌜ r ≡ isRecordLength l ⌝ }
+// 0, or that of a task and k messages, k at most 64: 37 + 6 × k in version 1, 38 + 6 × k in version 2.
+fn is_record_length(version: u8, l: usize) -> bool
+    ensures { λ r. ⌜ r ≡ isRecordLength version l ⌝ }
 {
-    if l < image::MAILBOX_AT {
+    let task = image::task_size(version);
+    if l < task {
         l == 0
     } else {
-        ((l - image::MAILBOX_AT) % image::MESSAGE_SIZE == 0)
-            & ((l - image::MAILBOX_AT) / image::MESSAGE_SIZE <= 64)
+        ((l - task) % image::MESSAGE_SIZE == 0) & ((l - task) / image::MESSAGE_SIZE <= 64)
     }
 }
 
-// Whether the fields ahead of the registers are in range, in a slot of an image with n instructions.
-fn fields_in_range(task: &[u8], slot: usize, n: usize) -> bool
-    requires { ⌜ slot < 16 ⌝ }
-    ensures { λ r. ⌜ r ≡ fieldsInRange slot n (taskOf (now (task .entry))) ⌝ }
+// The highest kind in an image of this version.
+fn highest_kind(version: u8) -> u8
+    ensures { λ r. ⌜ r ≡ highestKind version ⌝ }
 {
+    if version < 2 { 5 } else { 6 }
+}
+
+// Whether the fields ahead of the registers are in range, in a slot of an image with n instructions.
+fn fields_in_range(version: u8, task: &[u8], slot: usize, n: usize) -> bool
+    requires { ⌜ slot < 16 ⌝ }
+    ensures { λ r. ⌜ r ≡ fieldsInRange version slot n (taskOf version (now (task .entry))) ⌝ }
+{
+    let width = image::clearance_width(version);
     let kind = wire::byte_at(task, image::KIND_AT);
     let label = wire::byte_at(task, image::LABEL_AT);
-    let spare = wire::byte_at(task, image::SPARE_AT) as usize;
-    let pc = wire::decode_u16(wire::drop(task, image::PC_AT));
-    (1 <= kind) & (kind <= 5) & (label <= 15) & (pc <= n) & (slot + spare <= 15)
+    let clearance = image::clearance(version, task);
+    let spare = wire::byte_at(task, image::SPARE_AT + width) as usize;
+    let pc = wire::decode_u16(wire::drop(task, image::PC_AT + width));
+    (1 <= kind)
+        & (kind <= highest_kind(version))
+        & (label <= 15)
+        & (clearance <= 15)
+        & label::is_subset(label, clearance)
+        & (pc <= n)
+        & (slot + spare <= 15)
 }
 
 // Whether all messages are in range and no label has more than four.
-fn mail_in_range(task: &[u8]) -> bool
-    ensures { λ r. ⌜ r ≡ mailInRange (taskOf (now (task .entry)) .mailbox) ⌝ }
+fn mail_in_range(version: u8, task: &[u8]) -> bool
+    ensures { λ r. ⌜ r ≡ mailInRange (taskOf version (now (task .entry)) .mailbox) ⌝ }
 {
-    let mailbox = wire::drop(task, image::MAILBOX_AT);
+    let mailbox = wire::drop(task, image::task_size(version));
     let k = mailbox.len() / image::MESSAGE_SIZE;
     let mut counts: [u8; 16] = [0; 16];
     let mut j: usize = 0;
@@ -129,50 +146,57 @@ fn mail_in_range(task: &[u8]) -> bool
 }
 
 // What is wrong with a task, which has no bytes in an unused slot: 9 task field, 10 mail.
-fn record_number(task: &[u8], slot: usize, n: usize) -> u8
+fn record_number(version: u8, task: &[u8], slot: usize, n: usize) -> u8
     requires { ⌜ slot < 16 ⌝ }
-    ensures { λ r. ⌜ r ≡ recordNumber slot n (slotOf (now (task .entry))) ⌝ }
+    ensures { λ r. ⌜ r ≡ recordNumber version slot n (slotOf version (now (task .entry))) ⌝ }
 {
     if task.len() == 0 {
         return 0;
     }
-    if fields_in_range(task, slot, n) {
-        unless(mail_in_range(task), 10)
+    if fields_in_range(version, task, slot, n) {
+        unless(mail_in_range(version, task), 10)
     } else {
         9
     }
 }
 
-// What is wrong with a slot, at the front of b: 3 where its length is cut, 8, 3 where its record is cut, 9, 10.
-fn slot_number(b: &[u8], slot: usize, n: usize) -> u8
-    requires { ⌜ slot < 16 ⌝ }
-    ensures { λ r. ⌜ r ≡ slotNumber slot n (now (b .entry)) ⌝ }
+// What is wrong with the length of the slot at the front of b: 3 where it is cut, 8, 3 where its record is cut.
+fn length_number(version: u8, b: &[u8]) -> u8
+    ensures { λ r. ⌜ r ≡ lengthNumber version (now (b .entry)) ⌝ }
 {
     if b.len() < 2 {
         return 3;
     }
     let l = image::record_length(b);
-    let admitted = is_record_length(l);
+    let admitted = is_record_length(version, l);
     let whole = 2 + l <= b.len();
     if admitted {
-        if whole {
-            record_number(image::front_record(b), slot, n)
-        } else {
-            3
-        }
+        if whole { 0 } else { 3 }
     } else {
         8
     }
 }
 
+// What is wrong with a slot, at the front of b: its length, then its record.
+fn slot_number(version: u8, b: &[u8], slot: usize, n: usize) -> u8
+    requires { ⌜ slot < 16 ⌝ }
+    ensures { λ r. ⌜ r ≡ slotNumber version slot n (now (b .entry)) ⌝ }
+{
+    let length = length_number(version, b);
+    if length != 0 {
+        return length;
+    }
+    record_number(version, image::front_record(b), slot, n)
+}
+
 // What is wrong with the sixteen slots, the first that is met.
-fn slots_number(b: &[u8], n: usize) -> u8
-    ensures { λ r. ⌜ r ≡ slotsNumber 16 0 n (now (b .entry)) ⌝ }
+fn slots_number(version: u8, b: &[u8], n: usize) -> u8
+    ensures { λ r. ⌜ r ≡ slotsNumber version 16 0 n (now (b .entry)) ⌝ }
 {
     let mut rest = b;
     let mut slot: usize = 0;
     while slot < 16 {
-        let x = slot_number(rest, slot, n);
+        let x = slot_number(version, rest, slot, n);
         if x != 0 {
             return x;
         }
@@ -197,16 +221,17 @@ fn max(a: usize, b: usize) -> usize
 }
 
 // Whether no slot of a task's spare is used. `free_from` is the first slot above all slots seen and their spares.
-fn spares_unused(b: &[u8]) -> bool
-    ensures { λ r. ⌜ r ≡ sparesUnused (slotsOf 16 (now (b .entry))) ⌝ }
+fn spares_unused(version: u8, b: &[u8]) -> bool
+    ensures { λ r. ⌜ r ≡ sparesUnused (slotsOf version 16 (now (b .entry))) ⌝ }
 {
+    let at = image::SPARE_AT + image::clearance_width(version);
     let mut rest = b;
     let mut slot: usize = 0;
     let mut free_from: usize = 0;
     while slot < 16 {
         let record = image::front_record(rest);
         if (record.len() == 0) | (free_from <= slot) {
-            let spare = wire::byte_at(record, image::SPARE_AT) as usize;
+            let spare = wire::byte_at(record, at) as usize;
             free_from = max(free_from, slot + spare + 1);
             let next = image::behind(rest);
             rest = next;
@@ -221,7 +246,10 @@ fn spares_unused(b: &[u8]) -> bool
 fn estate_number(image: &[u8]) -> u8
     ensures { λ r. ⌜ r ≡ estateNumber (now (image .entry)) ⌝ }
 {
-    unless(spares_unused(image::slots_part(image)), 12)
+    unless(
+        spares_unused(image::version(image), image::slots_part(image)),
+        12,
+    )
 }
 
 // The number of an image, the first that is met front to back: 0 where it is accepted.
@@ -232,7 +260,11 @@ pub fn number(image: &[u8]) -> u8
     if head != 0 {
         return head;
     }
-    let slots = slots_number(image::slots_part(image), image::program(image).len() / 4);
+    let slots = slots_number(
+        image::version(image),
+        image::slots_part(image),
+        image::program(image).len() / 4,
+    );
     if slots != 0 {
         return slots;
     }

@@ -20,10 +20,12 @@ use Rattle.machine.proofs.Mailbox.{mailbox-64}
 use Rattle.wire.specs.Items.{decodeItems}
 use Rattle.wire.proofs.Items.{length-decode, getD-decode, decode-more}
 use Rattle.machine.specs.State.{Message, Task, Slot, unused, used, slotAt, withRegister, withRegisters, withMailbox, noMessage}
+use Rattle.image.specs.Format.{taskSize}
 use Rattle.image.specs.Record.{messageOf, mailboxOf, taskOf, slotOf, taskBytes}
-use Rattle.image.specs.Image.{recordOf, skip, slotsOf, slotsPart, programOf, stateOf}
+use Rattle.image.specs.Image.{versionOf, recordOf, skip, slotsOf, slotsPart, programOf, stateOf}
+use Rattle.image.specs.Inner.{clearanceWidth}
 use Rattle.image.specs.Refusal.{imageNumber}
-use Rattle.image.proofs.Offsets.{task-at, message-at}
+use Rattle.image.proofs.Offsets.{task-size, task-at, message-at}
 use Rattle.image.proofs.Slots.{length-slotsOf, slot-at}
 use Rattle.image.proofs.Image.{accepted-valid, record-accepted}
 use Rattle.image.proofs.Records.{slot-some, task-length}
@@ -153,41 +155,51 @@ module _ (s : ℕ) (b w : List ℕ) (ss ss′ : List Slot) (slots : ss′ ≡ ch
       ∙ change-same ss s (λ t. mailSet n b (withMailbox ms t)) (withMailbox (mailboxOf b))
       (λ t e. mail-are n b (withMailbox ms t) (omega (arith, long)) labelled ∙ ap (λ (xs : List Message). withMailbox xs t) all)
 
-module _ (r : List ℕ) (ok : Loadable r) where
+module _ (v : ℕ) (r : List ℕ) (ok : Loadable v r) where
+  pub record-long : 37 + clearanceWidth v ≤ length r
+  record-long = omega (arith, ok .long, task-size v)
+
+  -- where the registers and the mailbox stand
+  abbrev registers : List ℕ
+  registers = drop (5 + clearanceWidth v) r
+
+  abbrev mailbox : List ℕ
+  mailbox = drop (taskSize v) r
+
   -- the task as it is put, with registers 0 and no messages
   abbrev new : Task
-  new = newTask (taskOf r .kind) (taskOf r .label) (taskOf r .spare) (taskOf r .pc)
+  new = newTask (taskOf v r .kind) (taskOf v r .label) (taskOf v r .clearance) (taskOf v r .spare) (taskOf v r .pc)
 
-  task-is : withMailbox (mailboxOf (drop 37 r)) (registersSet 8 (drop 5 r) new) ≡ taskOf r
+  task-is : withMailbox (mailboxOf mailbox) (registersSet 8 registers new) ≡ taskOf v r
   task-is =
-      let rs = decodeItems 4 (decodeNumber 4) 8 (drop 5 r) in
-      ap (withMailbox (mailboxOf (drop 37 r)))
-      (registers-are 8 (drop 5 r) new (omega arith) ∙ ap (λ (xs : List ℕ). withRegisters xs new) (append-nil rs ∙ sym (task-at r .registers)))
+      let rs = decodeItems 4 (decodeNumber 4) 8 registers in
+      ap (withMailbox (mailboxOf mailbox))
+      (registers-are 8 registers new (omega arith) ∙ ap (λ (xs : List ℕ). withRegisters xs new) (append-nil rs ∙ sym (task-at v r .registers)))
 
   new-held : held new ≡ used new
-  new-held = rw (ne-eqb (taskOf r .kind) 0 (λ e. omega (arith, ok .kind)))
+  new-held = rw (ne-eqb (taskOf v r .kind) 0 (λ e. omega (arith, ok .kind)))
 
   -- the new task with its registers is there
-  pub registers-here : (s : ℕ) (ss : List Slot) → s < length ss → Used s (change s (registersSet 8 (drop 5 r)) (set ss s (held new)))
+  pub registers-here : (s : ℕ) (ss : List Slot) → s < length ss → Used s (change s (registersSet 8 registers) (set ss s (held new)))
   registers-here s ss l =
-      let x : slotAt (change s (registersSet 8 (drop 5 r)) (set ss s (held new))) s ≡ used (registersSet 8 (drop 5 r) new)
-      = change-at s (registersSet 8 (drop 5 r)) (set ss s (held new)) ∙ ap (changeSlot (registersSet 8 (drop 5 r))) (getD-set-same ss s (held new) unused l ∙ new-held) in
+      let x : slotAt (change s (registersSet 8 registers) (set ss s (held new))) s ≡ used (registersSet 8 registers new)
+      = change-at s (registersSet 8 registers) (set ss s (held new)) ∙ ap (changeSlot (registersSet 8 registers)) (getD-set-same ss s (held new) unused l ∙ new-held) in
       rw x
 
   -- a new task, its registers and its messages
   pub task-loaded : (s : ℕ) (ss : List Slot)
-      → change s (withMailbox (mailboxOf (drop 37 r))) (change s (registersSet 8 (drop 5 r)) (set ss s (held new))) ≡ set ss s (used (taskOf r))
+      → change s (withMailbox (mailboxOf mailbox)) (change s (registersSet 8 registers) (set ss s (held new))) ≡ set ss s (used (taskOf v r))
   task-loaded s ss =
-      rw (new-held, change-set s (registersSet 8 (drop 5 r)) ss (used new), change-set s (withMailbox (mailboxOf (drop 37 r))) ss (used (registersSet 8 (drop 5 r) new)), task-is)
+      rw (new-held, change-set s (registersSet 8 registers) ss (used new), change-set s (withMailbox (mailboxOf mailbox)) ss (used (registersSet 8 registers new)), task-is)
 
 -- ---- the slots
 
 -- slot k stored behind the slots before it
-pub load-next : (b : List ℕ) (ys : List Slot) (k : ℕ) (r : List ℕ) (ss : List Slot) → k < 16 → length ys ≡ 16
-    → ss ≡ take k (slotsOf 16 b) ++ drop k ys → r ≡ recordOf (skip k b) → set ss k (slotOf r) ≡ take (k + 1) (slotsOf 16 b) ++ drop (k + 1) ys
-load-next b ys k r ss h l e f =
-    let x : slotOf r ≡ slotAt (slotsOf 16 b) k = ap slotOf f ∙ sym (slot-at 16 k b h) in
-    rw (e, x) (copy-next (slotsOf 16 b) ys k unused (omega (arith, length-slotsOf 16 b)) (omega arith))
+pub load-next : (v : ℕ) (b : List ℕ) (ys : List Slot) (k : ℕ) (r : List ℕ) (ss : List Slot) → k < 16 → length ys ≡ 16
+    → ss ≡ take k (slotsOf v 16 b) ++ drop k ys → r ≡ recordOf (skip k b) → set ss k (slotOf v r) ≡ take (k + 1) (slotsOf v 16 b) ++ drop (k + 1) ys
+load-next v b ys k r ss h l e f =
+    let x : slotOf v r ≡ slotAt (slotsOf v 16 b) k = ap (slotOf v) f ∙ sym (slot-at v 16 k b h) in
+    rw (e, x) (copy-next (slotsOf v 16 b) ys k unused (omega (arith, length-slotsOf v 16 b)) (omega arith))
 
 -- ---- an accepted image
 
@@ -200,13 +212,20 @@ labels-fit b facts i h =
 
 module _ (b : List ℕ) where
   -- its tasks have a kind, and their mailboxes no more than 64 messages
-  pub accepted-loadable : Bytes b → imageNumber b ≡ 0 → LoadableSlots (slotsPart b)
+  pub accepted-loadable : Bytes b → imageNumber b ≡ 0 → LoadableSlots (versionOf b) (slotsPart b)
   unfolding stateOf
   accepted-loadable h e i l some =
+      let v = versionOf b in
+      let n = count (programOf b) in
       let r = recordOf (skip i (slotsPart b)) in
-      let x : slotAt (slotsOf 16 (slotsPart b)) i ≡ used (taskOf r) = slot-at 16 i (slotsPart b) l ∙ slot-some r (λ z. omega arith) in
-      let valid : ValidTask (count (programOf b)) i (taskOf r) = rw x at (accepted-valid b h e .tasks i) in
-      let facts = task-facts (count (programOf b)) i (taskOf r) valid in
-      let back : taskBytes (taskOf r) ≡ r = rw (slot-some r (λ z. omega arith)) at (record-accepted b i h e (omega arith)) in
-      let long : 37 ≤ length r = omega (arith, task-length (taskOf r), ap length back) in
-      record { long = long; kind = facts .kind-low; messages = rw length-decode at (mailbox-64 (taskOf r .mailbox) (facts .mailbox)); labels = labels-fit (drop 37 r) (facts .mailbox) }
+      let there = slot-some v r (λ z. omega arith) in
+      let x : slotAt (slotsOf v 16 (slotsPart b)) i ≡ used (taskOf v r) = slot-at v 16 i (slotsPart b) l ∙ there in
+      let valid : ValidTask v n i (taskOf v r) = rw x at (accepted-valid b h e .tasks i) in
+      let facts = task-facts v n i (taskOf v r) valid in
+      let back : taskBytes v (taskOf v r) ≡ r = rw there at (record-accepted b i h e (omega arith)) in
+      record {
+        long = omega (arith, task-length v (taskOf v r), ap length back);
+        kind = facts .kind-low;
+        messages = rw length-decode at (mailbox-64 (taskOf v r .mailbox) (facts .mailbox));
+        labels = labels-fit (drop (taskSize v) r) (facts .mailbox);
+      }

@@ -30,16 +30,17 @@ labelsOf b = decodeItems messageSize (λ m. messageOf m .label) (length b / mess
 abbrev pub LabelsFit : List ℕ → Type 0
 LabelsFit b = (i : ℕ) → i < length b / messageSize → getD (labelsOf b) i 0 ≤ highestLabel
 
--- a record whose task the table can hold: all fields, a kind, and no more messages than a mailbox has room for, each with a label
-pub record Loadable (r : List ℕ) : Type 0 where
-  pub long : taskSize ≤ length r
-  pub kind : 1 ≤ taskOf r .kind
-  pub messages : length (drop taskSize r) / messageSize ≤ mailboxRoom
-  pub labels : LabelsFit (drop taskSize r)
+-- a record whose task the table can hold, in an image of version v: all fields, a kind, and no more messages than a mailbox has room
+-- for, each with a label
+pub record Loadable (v : ℕ) (r : List ℕ) : Type 0 where
+  pub long : taskSize v ≤ length r
+  pub kind : 1 ≤ taskOf v r .kind
+  pub messages : length (drop (taskSize v) r) / messageSize ≤ mailboxRoom
+  pub labels : LabelsFit (drop (taskSize v) r)
 
 -- no bytes are an unused slot
-abbrev pub LoadableSlot : List ℕ → Type 0
-LoadableSlot r = 0 < length r → Loadable r
+abbrev pub LoadableSlot : ℕ → List ℕ → Type 0
+LoadableSlot v r = 0 < length r → Loadable v r
 
-abbrev pub LoadableSlots : List ℕ → Type 0
-LoadableSlots b = (i : ℕ) → i < 16 → LoadableSlot (recordOf (skip i b))
+abbrev pub LoadableSlots : ℕ → List ℕ → Type 0
+LoadableSlots v b = (i : ℕ) → i < 16 → LoadableSlot v (recordOf (skip i b))

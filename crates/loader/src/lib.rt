@@ -66,44 +66,46 @@ fn load_mailbox(table: &mut table::Table, slot: usize, mailbox: &[u8])
 }
 
 // Puts the task of a record into a slot.
-fn load_task(table: &mut table::Table, slot: usize, bytes: &[u8])
-    requires { ⌜ (slot < 16) × Loadable (now bytes) ⌝ }
-    ensures { λ _. ⌜ slotsIn (now (table .exit)) ≡ set (slotsIn (now (table .entry))) slot (used (taskOf (now (bytes .entry)))) ⌝ }
+fn load_task(table: &mut table::Table, slot: usize, version: u8, bytes: &[u8])
+    requires { ⌜ (slot < 16) × Loadable version (now bytes) ⌝ }
+    ensures { λ _. ⌜ slotsIn (now (table .exit)) ≡ set (slotsIn (now (table .entry))) slot (used (taskOf version (now (bytes .entry)))) ⌝ }
 {
-    let pc = wire::decode_u16(&bytes[image::PC_AT..]) as u32;
+    let width = image::clearance_width(version);
+    let pc = wire::decode_u16(&bytes[image::PC_AT + width..]) as u32;
     table::put_task(
         table,
         slot,
         wire::byte(bytes, image::KIND_AT),
         wire::byte(bytes, image::LABEL_AT),
-        wire::byte(bytes, image::SPARE_AT),
+        image::clearance(version, bytes),
+        wire::byte(bytes, image::SPARE_AT + width),
         pc,
     );
-    load_registers(table, slot, &bytes[image::REGISTERS_AT..]);
-    load_mailbox(table, slot, &bytes[image::MAILBOX_AT..]);
+    load_registers(table, slot, &bytes[image::REGISTERS_AT + width..]);
+    load_mailbox(table, slot, &bytes[image::task_size(version)..]);
 }
 
 // Puts what a record holds into a slot: no bytes are an unused slot.
-fn load_slot(table: &mut table::Table, slot: usize, bytes: &[u8])
-    requires { ⌜ (slot < 16) × LoadableSlot (now bytes) ⌝ }
-    ensures { λ _. ⌜ slotsIn (now (table .exit)) ≡ set (slotsIn (now (table .entry))) slot (slotOf (now (bytes .entry))) ⌝ }
+fn load_slot(table: &mut table::Table, slot: usize, version: u8, bytes: &[u8])
+    requires { ⌜ (slot < 16) × LoadableSlot version (now bytes) ⌝ }
+    ensures { λ _. ⌜ slotsIn (now (table .exit)) ≡ set (slotsIn (now (table .entry))) slot (slotOf version (now (bytes .entry))) ⌝ }
 {
     if bytes.len() == 0 {
         table::clear(table, slot);
     } else {
-        load_task(table, slot, bytes);
+        load_task(table, slot, version, bytes);
     }
 }
 
 // Loads slots 0 to 15.
-fn load_slots(table: &mut table::Table, slots: &[u8])
-    requires { ⌜ LoadableSlots (now slots) ⌝ }
-    ensures { λ _. ⌜ slotsIn (now (table .exit)) ≡ slotsOf 16 (now (slots .entry)) ⌝ }
+fn load_slots(table: &mut table::Table, version: u8, slots: &[u8])
+    requires { ⌜ LoadableSlots version (now slots) ⌝ }
+    ensures { λ _. ⌜ slotsIn (now (table .exit)) ≡ slotsOf version 16 (now (slots .entry)) ⌝ }
 {
     let mut rest = slots;
     let mut slot: usize = 0;
     while slot < 16 {
-        load_slot(table, slot, image::front_record(rest));
+        load_slot(table, slot, version, image::front_record(rest));
         let next = image::behind(rest);
         rest = next;
         slot += 1;
@@ -115,5 +117,5 @@ pub fn load(table: &mut table::Table, image: &[u8])
     requires { ⌜ imageNumber (now image) ≡ 0 ⌝ }
     ensures { λ _. ⌜ slotsIn (now (table .exit)) ≡ stateOf (now (image .entry)) .slots ⌝ }
 {
-    load_slots(table, image::slots_part(image));
+    load_slots(table, image::version(image), image::slots_part(image));
 }

@@ -2,63 +2,38 @@
 use Prim.Native.Nat.{ℕ, zero, suc, _+_, _%_, _≤_, _<_}
 use mathlib.Core.Logic.{dite}
 use mathlib.Core.Path.{_≡_, refl, ap, _∙_}
-use mathlib.Core.Bool.{Bool, false, _&&_, not}
+use mathlib.Core.Bool.{false, not}
 use mathlib.Core.List.{List}
 use native.Mathlib.Decide.{ℕ-discrete, decLt}
 use native.Mathlib.Numerals.{add-one}
 use native.Mathlib.Omega.{arith}
-use lib.Dec.{eqb}
-use lib.ListN.{set, List·getD-eq-default}
-use Rattle.wire.proofs.Lists.{split, getD-set-at, first-low}
+use lib.ListN.{List·getD-eq-default}
+use Rattle.wire.proofs.Lists.{first-low}
 use Rattle.label.specs.Label.{flows, join}
 use Rattle.label.proofs.Order.{label-order}
-use Rattle.machine.specs.State.{Message, Task, Slot, unused, used, State, slotAt, isUnused, hasLiveTask, spareOf}
-use Rattle.machine.specs.Effect.{Action, noAction, deliver, spawn, outcome}
-use Rattle.machine.specs.Turn.{hasRoom, enqueue, perform, current, step, turnBy, turnsBy, busyBy}
+use Rattle.machine.specs.State.{Task, Slot, unused, used, State, slotAt, isUnused, hasLiveTask, spareOf}
+use Rattle.machine.specs.Effect.{spawn}
+use Rattle.machine.specs.Turn.{current, step, turnBy, turnsBy, busyBy}
 use Rattle.machine.specs.Machine.{turns, busy}
 use Rattle.machine.specs.Valid.{Valid}
 use Rattle.machine.specs.Inner.{bottomOf, topBehind, topOf, WithinSlot, Within}
-use Rattle.machine.proofs.Effect.{Allowed, outcome-contained}
+use Rattle.machine.proofs.Effect.{Allowed}
 use Rattle.machine.proofs.Spare.{Spares}
 use Rattle.machine.proofs.Valid.{valid-spares}
+use Rattle.machine.proofs.Kept.{turns-keep}
 
 -- ---- a turn leaves the bounds as they are
 
 module _ (bottom top : ℕ) where
-  within-set : (ss : List Slot) (i : ℕ) (y : Slot) → Within bottom top ss → WithinSlot bottom top i y → Within bottom top (set ss i y)
-  within-set ss i y ok h s = getD-set-at (WithinSlot bottom top s) ss i s y unused (λ e. rw e h) (ok s)
+  within-own : (s : ℕ) (t t′ : Task) → t .clearance ≡ t′ .clearance → t′ .spare ≤ t .spare → WithinSlot bottom top s (used t) → WithinSlot bottom top s (used t′)
+  within-own s t t′ e l h = (h .0, omega (arith, h .1))
 
-  within-enqueue : (s : ℕ) (m : Message) (x : Slot) → WithinSlot bottom top s x → WithinSlot bottom top s (enqueue m x)
-  within-enqueue s m unused h = tt
-  within-enqueue s m (used t) h = split (eqb (t .kind) 1 && hasRoom (m .label) (t .mailbox)) (λ b. rw b h) (λ b. rw b h)
-
-  -- the task t in slot i becomes t′ and acts
-  within-perform : (mayFlow : ℕ → ℕ → Bool) (ss : List Slot) (i : ℕ) (t t′ : Task) (a : Action) → Allowed mayFlow i t t′ a
-      → (bottom ≤ i) × (i + t .spare < top) → Within bottom top ss → Within bottom top (perform a (set ss i (used t′)))
-  within-perform mayFlow ss i t t′ noAction h b ok = within-set ss i (used t′) ok (b .0, omega (arith, b .1, h))
-  within-perform mayFlow ss i t t′ (deliver j m) h b ok =
-      let own = within-set ss i (used t′) ok (b .0, omega (arith, b .1, h .0)) in
-      within-set (set ss i (used t′)) j (enqueue m (slotAt (set ss i (used t′)) j)) own (within-enqueue j m (slotAt (set ss i (used t′)) j) (own j))
-  within-perform mayFlow ss i t t′ (spawn j c) h b ok =
-      within-set (set ss i (used t′)) j (used c) (within-set ss i (used t′) ok (b .0, omega (arith, b .1, h .1)))
-      (omega (arith, b .0, h .0), omega (arith, b .1, h .0, h .1))
-
-  within-step : (program : List ℕ) (s : ℕ) (ss : List Slot) → Within bottom top ss → (x : Slot) → slotAt ss s ≡ x → Within bottom top (step flows join program s ss x)
-  within-step program s ss ok unused at = ok
-  within-step program s ss ok (used t) at =
-      let o = outcome flows join program s t in
-      let b : (bottom ≤ s) × (s + t .spare < top) = rw at at (ok s) in
-      split (eqb (t .kind) 1)
-      (λ e. rw e (within-perform flows ss s t (o .task) (o .action) (outcome-contained flows join label-order s t program .allowed) b ok))
-      (λ e. rw e ok)
+  within-child : (s : ℕ) (t t′ : Task) (j : ℕ) (c : Task) → Allowed flows s t t′ (spawn j c) → WithinSlot bottom top s (used t) → WithinSlot bottom top j (used c)
+  within-child s t t′ j c a h = (omega (arith, h .0, a .0), omega (arith, h .1, a .0, a .1))
 
   -- nothing outside is ever used
   pub turns-within : (n : ℕ) (s : State) → Within bottom top (s .slots) → Within bottom top (turns n s .slots)
-  unfolding turnsBy turnBy
-  turns-within zero s ok = ok
-  turns-within (suc n) s ok =
-      let before = turns n s in
-      within-step (before .program) (before .turnSlot) (before .slots) (turns-within n s ok) (slotAt (before .slots) (before .turnSlot)) refl
+  turns-within = turns-keep flows join label-order (WithinSlot bottom top) (λ s. tt) within-own within-child
 
   outside : (s : ℕ) (x : Slot) → WithinSlot bottom top s x → (bottom ≤ s → s < top → ⊥) → x ≡ unused
   outside s unused h out = refl
@@ -75,7 +50,7 @@ module _ (bottom top : ℕ) where
 -- n of them, up to the last slot: only the turn slot goes on, and none is busy
 module _ (s : State) (low : s .turnSlot ≤ 15) where
   abbrev after : ℕ → State
-  after n = record { program = s .program; turnSlot = (s .turnSlot + n) % 16; slots = s .slots }
+  after n = record { version = s .version; program = s .program; turnSlot = (s .turnSlot + n) % 16; slots = s .slots }
 
   step-idle : (program : List ℕ) (i : ℕ) (x : Slot) → hasLiveTask x ≡ false → step flows join program i (s .slots) x ≡ s .slots
   step-idle program i unused e = refl

@@ -8,6 +8,7 @@ use native.Mathlib.Omega.{arith}
 use borrow.Author.Tests.{leb-true}
 use lib.Dec.{leb, ltb, eqb}
 use Rattle.wire.proofs.Lists.{split, keep-keep, first-keep, without-keep}
+use Rattle.label.specs.Label.{isSubset}
 use Rattle.label.proofs.Order.{Order, DownClosed}
 use Rattle.instruction.specs.declared.Instruction.{Instruction}
 use Rattle.instruction.specs.declared.Instruction.the-variants.{End, Set, Copy, Add, Subtract, Go, Zero, Raise, Send, Take, Poll, Sandbox, Identity, Count}
@@ -29,10 +30,12 @@ module _ (mayFlow : ℕ → ℕ → Bool) where
   abbrev pub Allowed : ℕ → Task → Task → Action → Type 0
   Allowed s t t′ noAction = t .spare ≡ t′ .spare
   Allowed s t t′ (deliver j m) = (t .spare ≡ t′ .spare) × (mayFlow (t .label) (m .label) ≡ true)
-  Allowed s t t′ (spawn j c) = (suc (s + t′ .spare) ≡ j) × (suc (t′ .spare + c .spare) ≡ t .spare) × (mayFlow (t .label) (c .label) ≡ true)
+  Allowed s t t′ (spawn j c) =
+      (suc (s + t′ .spare) ≡ j) × (suc (t′ .spare + c .spare) ≡ t .spare) × (mayFlow (t .label) (c .label) ≡ true) × (t .clearance ≡ c .clearance)
 
   pub record Contained (s : ℕ) (t : Task) (o : Outcome) : Type 0 where
     pub rises : mayFlow (t .label) (o .task .label) ≡ true
+    pub cleared : t .clearance ≡ o .task .clearance
     pub allowed : Allowed s t (o .task) (o .action)
 
   module _ (joined : ℕ → ℕ → ℕ) (order : Order mayFlow joined) where
@@ -69,7 +72,7 @@ module _ (mayFlow : ℕ → ℕ → Bool) where
       execute-view (Subtract a b c) s = refl
       execute-view (Go a) s = refl
       execute-view (Zero a b) s = split (eqb (register t a) 0) (λ e. rw e) (λ e. rw e)
-      execute-view (Raise a) s = refl
+      execute-view (Raise a) s = split (isSubset (joined (t .label) a) (t .clearance)) (λ e. rw e) (λ e. rw e)
       execute-view (Send a b c) s = split (mayFlow (t .label) b) (λ e. rw e) (λ e. rw e)
       execute-view (Take a b) s = taken-view a b t
       execute-view (Poll a b c) s = taken-view a b (withPc c t)
@@ -88,45 +91,48 @@ module _ (mayFlow : ℕ → ℕ → Bool) where
 
     -- ---- any task
     module _ (s : ℕ) (t : Task) where
-      -- only the task itself changes, and neither its label nor its spare
-      withoutAction-contained : (t′ : Task) → t .label ≡ t′ .label → t .spare ≡ t′ .spare → Contained s t (withoutAction t′)
-      withoutAction-contained t′ l k = record { rises = rw l (order .reflexive (t′ .label)); allowed = omega arith }
+      -- only the task itself changes, and neither its label, its clearance nor its spare
+      withoutAction-contained : (t′ : Task) → t .label ≡ t′ .label → t .clearance ≡ t′ .clearance → t .spare ≡ t′ .spare → Contained s t (withoutAction t′)
+      withoutAction-contained t′ l c k = record { rises = rw l (order .reflexive (t′ .label)); cleared = c; allowed = omega arith }
 
       taken-contained : (a b : ℕ) (otherwise : Task) → Contained s t (withoutAction otherwise) → Contained s t (taken mayFlow a b otherwise t)
-      taken-contained a b otherwise h = split (ltb 0 (found mayFlow t .receivable)) (λ e. rw e (withoutAction-contained _ refl refl)) (λ e. rw e h)
+      taken-contained a b otherwise h = split (ltb 0 (found mayFlow t .receivable)) (λ e. rw e (withoutAction-contained _ refl refl refl)) (λ e. rw e h)
 
       execute-contained : (n : ℕ) (i : Instruction) → Sound n i → Contained s t (execute mayFlow joined i s t)
       unfolding execute
-      execute-contained n End h = withoutAction-contained _ refl refl
-      execute-contained n (Set a b c) h = withoutAction-contained _ refl refl
-      execute-contained n (Copy a b) h = withoutAction-contained _ refl refl
-      execute-contained n (Add a b c) h = withoutAction-contained _ refl refl
-      execute-contained n (Subtract a b c) h = withoutAction-contained _ refl refl
-      execute-contained n (Go a) h = withoutAction-contained _ refl refl
+      execute-contained n End h = withoutAction-contained _ refl refl refl
+      execute-contained n (Set a b c) h = withoutAction-contained _ refl refl refl
+      execute-contained n (Copy a b) h = withoutAction-contained _ refl refl refl
+      execute-contained n (Add a b c) h = withoutAction-contained _ refl refl refl
+      execute-contained n (Subtract a b c) h = withoutAction-contained _ refl refl refl
+      execute-contained n (Go a) h = withoutAction-contained _ refl refl refl
       execute-contained n (Zero a b) h =
-          split (eqb (register t a) 0) (λ e. rw e (withoutAction-contained _ refl refl)) (λ e. rw e (withoutAction-contained _ refl refl))
-      execute-contained n (Raise a) h = record { rises = order .join-above (t .label) a; allowed = omega arith }
+          split (eqb (register t a) 0) (λ e. rw e (withoutAction-contained _ refl refl refl)) (λ e. rw e (withoutAction-contained _ refl refl refl))
+      execute-contained n (Raise a) h =
+          split (isSubset (joined (t .label) a) (t .clearance))
+          (λ e. rw e record { rises = order .join-above (t .label) a; cleared = refl; allowed = omega arith })
+          (λ e. rw e (withoutAction-contained _ refl refl refl))
       execute-contained n (Send a b c) h =
           split (mayFlow (t .label) b)
-          (λ e. rw e record { rises = order .reflexive (t .label); allowed = (omega arith, e) })
-          (λ e. rw e (withoutAction-contained _ refl refl))
-      execute-contained n (Take a b) h = taken-contained a b t (withoutAction-contained _ refl refl)
-      execute-contained n (Poll a b c) h = taken-contained a b (withPc c t) (withoutAction-contained _ refl refl)
+          (λ e. rw e record { rises = order .reflexive (t .label); cleared = refl; allowed = (omega arith, e) })
+          (λ e. rw e (withoutAction-contained _ refl refl refl))
+      execute-contained n (Take a b) h = taken-contained a b t (withoutAction-contained _ refl refl refl)
+      execute-contained n (Poll a b c) h = taken-contained a b (withPc c t) (withoutAction-contained _ refl refl refl)
       execute-contained n (Sandbox a b c) h =
           split (leb c (t .spare))
           (λ e. let fits : c ≤ t .spare = leb-true c (t .spare) e in
-          rw e record { rises = order .reflexive (t .label); allowed = (omega arith, omega arith, order .reflexive (t .label)) })
-          (λ e. rw e (withoutAction-contained _ refl refl))
-      execute-contained n (Identity a b) h = withoutAction-contained _ refl refl
-      execute-contained n (Count a) h = withoutAction-contained _ refl refl
+          rw e record { rises = order .reflexive (t .label); cleared = refl; allowed = (omega arith, omega arith, order .reflexive (t .label), refl) })
+          (λ e. rw e (withoutAction-contained _ refl refl refl))
+      execute-contained n (Identity a b) h = withoutAction-contained _ refl refl refl
+      execute-contained n (Count a) h = withoutAction-contained _ refl refl refl
 
       carriedOut-contained : (program : List ℕ) (d : Decoded) → instructionAt program (t .pc) ≡ d → Contained s t (carriedOut mayFlow joined d s t)
       carriedOut-contained program (Legal i) e = execute-contained (count program) i (at-sound program (t .pc) i e)
-      carriedOut-contained program Illegal e = withoutAction-contained _ refl refl
+      carriedOut-contained program Illegal e = withoutAction-contained _ refl refl refl
 
       pub outcome-contained : (program : List ℕ) → Contained s t (outcome mayFlow joined program s t)
       unfolding outcome
       outcome-contained program =
           split (eqb (t .pc) (count program))
-          (λ e. rw e (withoutAction-contained _ refl refl))
+          (λ e. rw e (withoutAction-contained _ refl refl refl))
           (λ e. rw e (carriedOut-contained program (instructionAt program (t .pc)) refl))

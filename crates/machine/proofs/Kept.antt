@@ -1,5 +1,6 @@
--- What turns keep: the program; a used slot is never handed back, and a task that has stopped stays as it is.
-use Prim.Native.Nat.{ℕ, zero, suc}
+-- What turns keep: version and program; a fact of each slot by itself; a used slot is never handed back, and a task that has stopped
+-- stays as it is.
+use Prim.Native.Nat.{ℕ, zero, suc, _≤_}
 use mathlib.Core.Path.{_≡_, refl, ap}
 use mathlib.Core.Bool.{Bool, true, false, _&&_}
 use mathlib.Core.List.{List}
@@ -9,18 +10,89 @@ use Rattle.wire.proofs.Lists.{split, getD-set-at}
 use Rattle.label.proofs.Order.{Order}
 use Rattle.machine.specs.State.{Message, Task, Slot, unused, used, State, slotAt, isLive, isUnused}
 use Rattle.machine.specs.Effect.{Action, noAction, deliver, spawn, Outcome, outcome}
-use Rattle.machine.specs.Turn.{hasRoom, enqueue, perform, applied, step, turnBy, turnsBy}
+use Rattle.machine.specs.Turn.{hasRoom, enqueue, perform, applied, step, turnBy, turnsBy, busyBy}
+use Rattle.machine.specs.Post.{hostMessage, post}
+use Rattle.machine.specs.Inner.{withVersion}
 use Rattle.machine.specs.Valid.{Valid}
 use Rattle.machine.proofs.Effect.{Allowed, Contained, outcome-contained}
 use Rattle.machine.proofs.Spare.{Spares, spawn-unused}
 use Rattle.machine.proofs.Valid.{valid-spares, turns-valid}
 
--- ---- the program
+-- ---- version and program
 
-pub turns-program : (mayFlow : ℕ → ℕ → Bool) (joined : ℕ → ℕ → ℕ) (n : ℕ) (state : State) → turnsBy mayFlow joined n state .program ≡ state .program
-unfolding turnsBy turnBy
-turns-program mayFlow joined zero state = refl
-turns-program mayFlow joined (suc n) state = turns-program mayFlow joined n state
+module _ (mayFlow : ℕ → ℕ → Bool) (joined : ℕ → ℕ → ℕ) where
+  pub turns-version : (n : ℕ) (state : State) → turnsBy mayFlow joined n state .version ≡ state .version
+  unfolding turnsBy turnBy
+  turns-version zero state = refl
+  turns-version (suc n) state = turns-version n state
+
+  -- turns look at no version
+  turns-as : (v n : ℕ) (state : State) → turnsBy mayFlow joined n (withVersion v state) ≡ withVersion v (turnsBy mayFlow joined n state)
+  unfolding turnsBy turnBy
+  turns-as v zero state = refl
+  turns-as v (suc n) state = rw (turns-as v n state)
+
+  pub turns-slots-as : (v n : ℕ) (state : State) → turnsBy mayFlow joined n (withVersion v state) .slots ≡ turnsBy mayFlow joined n state .slots
+  turns-slots-as v n state = rw (turns-as v n state)
+
+  pub turns-slot-as : (v n : ℕ) (state : State) → turnsBy mayFlow joined n (withVersion v state) .turnSlot ≡ turnsBy mayFlow joined n state .turnSlot
+  turns-slot-as v n state = rw (turns-as v n state)
+
+  pub busy-as : (v n : ℕ) (state : State) → busyBy mayFlow joined n (withVersion v state) ≡ busyBy mayFlow joined n state
+  unfolding busyBy
+  busy-as v zero state = refl
+  busy-as v (suc n) state = rw (busy-as v n state, turns-as v n state)
+
+  pub turns-program : (n : ℕ) (state : State) → turnsBy mayFlow joined n state .program ≡ state .program
+  unfolding turnsBy turnBy
+  turns-program zero state = refl
+  turns-program (suc n) state = turns-program n state
+
+-- ---- a fact of each slot by itself
+
+-- a fact P that an unused slot has, that a task keeps whose clearance stays and whose spare does not grow, and that a child has from its
+-- parent
+module _ (mayFlow : ℕ → ℕ → Bool) (joined : ℕ → ℕ → ℕ) (order : Order mayFlow joined) (P : ℕ → Slot → Type 0) (none : (s : ℕ) → P s unused)
+    (own : (s : ℕ) (t t′ : Task) → t .clearance ≡ t′ .clearance → t′ .spare ≤ t .spare → P s (used t) → P s (used t′))
+    (child : (s : ℕ) (t t′ : Task) (j : ℕ) (c : Task) → Allowed mayFlow s t t′ (spawn j c) → P s (used t) → P j (used c)) where
+  abbrev pub All : List Slot → Type 0
+  All ss = (s : ℕ) → P s (slotAt ss s)
+
+  set-keeps : (ss : List Slot) (i : ℕ) (y : Slot) → All ss → P i y → All (set ss i y)
+  set-keeps ss i y ok h s = getD-set-at (P s) ss i s y unused (λ e. rw e h) (ok s)
+
+  enqueue-keeps : (s : ℕ) (m : Message) (x : Slot) → P s x → P s (enqueue m x)
+  enqueue-keeps s m unused h = h
+  enqueue-keeps s m (used t) h = split (isLive t && hasRoom (m .label) (t .mailbox)) (λ b. rw b (own s t _ refl (omega arith) h)) (λ b. rw b h)
+
+  deliver-keeps : (j : ℕ) (m : Message) (ss : List Slot) → All ss → All (perform (deliver j m) ss)
+  deliver-keeps j m ss ok = set-keeps ss j (enqueue m (slotAt ss j)) ok (enqueue-keeps j m (slotAt ss j) (ok j))
+
+  -- the task t in slot i becomes t′ and acts
+  perform-keeps : (ss : List Slot) (i : ℕ) (t t′ : Task) (a : Action) → Allowed mayFlow i t t′ a → t .clearance ≡ t′ .clearance → P i (used t)
+      → All ss → All (perform a (set ss i (used t′)))
+  perform-keeps ss i t t′ noAction h e p ok = set-keeps ss i (used t′) ok (own i t t′ e (omega arith) p)
+  perform-keeps ss i t t′ (deliver j m) h e p ok = deliver-keeps j m (set ss i (used t′)) (set-keeps ss i (used t′) ok (own i t t′ e (omega (arith, h .0)) p))
+  perform-keeps ss i t t′ (spawn j c) h e p ok =
+      set-keeps (set ss i (used t′)) j (used c) (set-keeps ss i (used t′) ok (own i t t′ e (omega (arith, h .1)) p)) (child i t t′ j c h p)
+
+  step-keeps : (program : List ℕ) (s : ℕ) (ss : List Slot) → All ss → (x : Slot) → slotAt ss s ≡ x → All (step mayFlow joined program s ss x)
+  step-keeps program s ss ok unused at = ok
+  step-keeps program s ss ok (used t) at =
+      let o = outcome mayFlow joined program s t in
+      let contained = outcome-contained mayFlow joined order s t program in
+      split (isLive t) (λ e. rw e (perform-keeps ss s t (o .task) (o .action) (contained .allowed) (contained .cleared) (rw at at (ok s)) ok)) (λ e. rw e ok)
+
+  pub turns-keep : (n : ℕ) (state : State) → All (state .slots) → All (turnsBy mayFlow joined n state .slots)
+  unfolding turnsBy turnBy
+  turns-keep zero state ok = ok
+  turns-keep (suc n) state ok =
+      let before = turnsBy mayFlow joined n state in
+      step-keeps (before .program) (before .turnSlot) (before .slots) (turns-keep n state ok) (slotAt (before .slots) (before .turnSlot)) refl
+
+  pub post-keeps : (j label value : ℕ) (state : State) → All (state .slots) → All (post j label value state .slots)
+  unfolding post
+  post-keeps j label value state = deliver-keeps j (hostMessage label value) (state .slots)
 
 -- ---- slots
 

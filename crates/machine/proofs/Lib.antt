@@ -8,6 +8,7 @@ pub mod View
 pub mod Valid
 pub mod Turn
 pub mod Kept
+pub mod Clearance
 pub mod Post
 pub mod Machine
 pub mod Traps

@@ -4,12 +4,13 @@ use mathlib.Core.Path.{_≡_}
 use mathlib.Core.Bool.{true, false, cond}
 use Rattle.wire.proofs.Lists.{every-weaken}
 use Rattle.label.specs.Label.{flows, join}
-use Rattle.label.proofs.Order.{DownClosed, label-order, flows-15}
+use Rattle.label.proofs.Order.{DownClosed, label-order, subset-15}
 use Rattle.machine.specs.State.{Message, Slot, unused, used, State, slotAt, hasLiveTask}
 use Rattle.machine.specs.Turn.{current, turnBy}
 use Rattle.machine.specs.Post.{post}
 use Rattle.machine.specs.Valid.{Valid}
 use Rattle.machine.proofs.Rules.{MessageFacts, SlotFacts, slot-facts}
+use Rattle.machine.specs.Inner.{withVersion}
 use Rattle.machine.specs.Machine.{turns, busy, view}
 use Rattle.machine.proofs.Valid as Valid
 use Rattle.machine.proofs.View.{AllSeen, view-all}
@@ -32,7 +33,14 @@ view-valid v = Valid.view-valid (λ l. flows l v)
 pub post-valid : (j label value : ℕ) → label ≤ 15 → value < 2 ^ 32 → (s : State) → Valid s → Valid (post j label value s)
 post-valid = Valid.post-valid
 
--- ---- and so is the program
+-- ---- and so are version and program
+
+pub turns-version : (n : ℕ) (s : State) → turns n s .version ≡ s .version
+turns-version = Kept.turns-version flows join
+
+-- what turns do as in version 2 is what they do
+pub turns-as-2 : (n : ℕ) (s : State) → (turns n (withVersion 2 s) .slots ≡ turns n s .slots) × (turns n (withVersion 2 s) .turnSlot ≡ turns n s .turnSlot) × (busy n (withVersion 2 s) ≡ busy n s)
+turns-as-2 n s = (Kept.turns-slots-as flows join 2 n s, Kept.turns-slot-as flows join 2 n s, Kept.busy-as flows join 2 n s)
 
 pub turns-program : (n : ℕ) (s : State) → turns n s .program ≡ s .program
 turns-program = Kept.turns-program flows join
@@ -81,12 +89,12 @@ post-hidden v = Post.post-hidden (λ l. flows l v)
 
 -- ---- label 15
 
-slot-seen : (n s : ℕ) (x : Slot) → SlotFacts n s x → AllSeen (λ l. flows l 15) x
-slot-seen n s unused h = tt
-slot-seen n s (used t) h =
-    let message : (m : Message) → MessageFacts m → flows (m .label) 15 ≡ true = λ m f. flows-15 (m .label) (f .label) in
-    (flows-15 (t .label) (h .label), every-weaken MessageFacts (λ (m : Message). flows (m .label) 15 ≡ true) message (t .mailbox) (h .mailbox .each))
+slot-seen : (v n s : ℕ) (x : Slot) → SlotFacts v n s x → AllSeen (λ l. flows l 15) x
+slot-seen v n s unused h = tt
+slot-seen v n s (used t) h =
+    let message : (m : Message) → MessageFacts m → flows (m .label) 15 ≡ true = λ m f. subset-15 (m .label) (f .label) in
+    (subset-15 (t .label) (h .label), every-weaken MessageFacts (λ (m : Message). flows (m .label) 15 ≡ true) message (t .mailbox) (h .mailbox .each))
 
 -- the observer 15 sees everything
 pub view-15 : (s : State) → Valid s → view 15 s ≡ s
-view-15 s ok = view-all (λ l. flows l 15) s (λ i. slot-seen _ i (slotAt (s .slots) i) (slot-facts _ i (slotAt (s .slots) i) (ok .tasks i)))
+view-15 s ok = view-all (λ l. flows l 15) s (λ i. slot-seen _ _ i (slotAt (s .slots) i) (slot-facts _ _ i (slotAt (s .slots) i) (ok .tasks i)))

@@ -9,11 +9,13 @@ use borrow.Author.Tests.{leb-true, le-leb, eqb-true}
 use lib.Dec.{leb, eqb}
 use lib.ListN.{length, List·getD-eq-default}
 use Rattle.wire.specs.Lists.{each, all, Every}
-use Rattle.wire.proofs.Lists.{and-both, and-intro, each-intro, each-at, every-at, every-of, every-weaken, every-all}
-use Rattle.machine.specs.Limits.{highestSender}
+use Rattle.wire.proofs.Lists.{split, and-both, and-intro, each-intro, each-at, every-at, every-of, every-weaken, every-all}
+use Rattle.label.specs.Label.{isSubset}
+use Rattle.machine.specs.Limits.{highestSender, highestKind}
+use Rattle.machine.specs.Version.{hasClearances}
 use Rattle.machine.specs.State.{Message, Task, Slot, unused, used, slotAt, isUnused, spareOf, register}
 use Rattle.machine.specs.Turn.{ofLabel}
-use Rattle.machine.specs.Valid.{isProgramLength, messageInRange, mailInRange, sparesUnused, ValidTask, ValidSlot}
+use Rattle.machine.specs.Valid.{isProgramLength, messageInRange, mailInRange, sparesUnused, clearanceFits, ValidTask, ValidSlot}
 
 -- ---- the program's length
 
@@ -59,31 +61,52 @@ mailbox-test ms f =
 
 -- ---- tasks
 
-pub record TaskFacts (n s : ℕ) (t : Task) : Type 0 where
+-- every version has five kinds at least, and six at most
+pub five-kinds : (v : ℕ) → 5 ≤ highestKind v
+five-kinds v = split (hasClearances v) (λ e. rw e (omega arith)) (λ e. rw e (omega arith))
+
+pub six-kinds : (v : ℕ) → highestKind v ≤ 6
+six-kinds v = split (hasClearances v) (λ e. rw e (omega arith)) (λ e. rw e (omega arith))
+
+-- a label and the clearance above it, in version v
+pub record ClearanceFacts (v label clearance : ℕ) : Type 0 where
+  pub high : clearance ≤ 15
+  pub above : isSubset label clearance ≡ true
+  pub fits : clearanceFits v clearance ≡ true
+
+pub record TaskFacts (v n s : ℕ) (t : Task) : Type 0 where
   pub kind-low : 1 ≤ t .kind
-  pub kind-high : t .kind ≤ 5
+  pub kind-high : t .kind ≤ highestKind v
   pub label : t .label ≤ 15
+  pub clearance : ClearanceFacts v (t .label) (t .clearance)
   pub spare : s + t .spare ≤ 15
   pub pc : t .pc ≤ n
   pub registers : length (t .registers) ≡ 8
   pub words : (a : ℕ) → register t a < 2 ^ 32
   pub mailbox : MailboxFacts (t .mailbox)
 
-abbrev pub SlotFacts : ℕ → ℕ → Slot → Type 0
-SlotFacts n s unused = Unit {0}
-SlotFacts n s (used t) = TaskFacts n s t
+abbrev pub SlotFacts : ℕ → ℕ → ℕ → Slot → Type 0
+SlotFacts v n s unused = Unit {0}
+SlotFacts v n s (used t) = TaskFacts v n s t
 
-module _ (n s : ℕ) where
-  pub task-facts : (t : Task) → ValidTask n s t → TaskFacts n s t
+module _ (v n s : ℕ) where
+  pub task-facts : (t : Task) → ValidTask v n s t → TaskFacts v n s t
   task-facts t ok =
-      let spare = and-both (leb 1 (t .kind) && leb (t .kind) 5 && leb (t .label) 15 && leb (t .pc) n) (leb (s + t .spare) 15) (ok .fields) in
-      let pc = and-both (leb 1 (t .kind) && leb (t .kind) 5 && leb (t .label) 15) (leb (t .pc) n) (spare .0) in
-      let label = and-both (leb 1 (t .kind) && leb (t .kind) 5) (leb (t .label) 15) (pc .0) in
-      let kind = and-both (leb 1 (t .kind)) (leb (t .kind) 5) (label .0) in
+      let k = leb 1 (t .kind) && leb (t .kind) (highestKind v) in
+      let l = leb (t .label) 15 in
+      let c = leb (t .clearance) 15 in
+      let w = isSubset (t .label) (t .clearance) in
+      let spare = and-both (k && l && c && w && leb (t .pc) n) (leb (s + t .spare) 15) (ok .fields) in
+      let pc = and-both (k && l && c && w) (leb (t .pc) n) (spare .0) in
+      let above = and-both (k && l && c) w (pc .0) in
+      let clearance = and-both (k && l) c (above .0) in
+      let label = and-both k l (clearance .0) in
+      let kind = and-both (leb 1 (t .kind)) (leb (t .kind) (highestKind v)) (label .0) in
       record {
         kind-low = leb-true _ _ (kind .0);
         kind-high = leb-true _ _ (kind .1);
         label = leb-true _ _ (label .1);
+        clearance = record { high = leb-true _ _ (clearance .1); above = above .1; fits = ok .clearance };
         spare = leb-true _ _ (spare .1);
         pc = leb-true _ _ (pc .1);
         registers = ok .registers;
@@ -91,26 +114,29 @@ module _ (n s : ℕ) where
         mailbox = mailbox-facts (t .mailbox) (ok .mail) (ok .values);
       }
 
-  task-valid : (t : Task) → TaskFacts n s t → ValidTask n s t
+  task-valid : (t : Task) → TaskFacts v n s t → ValidTask v n s t
   task-valid t f = record {
     fields = rw (
       le-leb 1 (t .kind) (f .kind-low),
-      le-leb (t .kind) 5 (f .kind-high),
+      le-leb (t .kind) (highestKind v) (f .kind-high),
       le-leb (t .label) 15 (f .label),
+      le-leb (t .clearance) 15 (f .clearance .high),
+      f .clearance .above,
       le-leb (t .pc) n (f .pc),
       le-leb (s + t .spare) 15 (f .spare),
     );
+    clearance = f .clearance .fits;
     mail = mailbox-test (t .mailbox) (f .mailbox);
     registers = f .registers;
     words = every-of (λ (x : ℕ). x < 2 ^ 32) 0 (t .registers) (f .words);
     values = every-weaken MessageFacts (λ (m : Message). m .value < 2 ^ 32) (λ m h. h .value) (t .mailbox) (f .mailbox .each);
   }
 
-  pub slot-facts : (x : Slot) → ValidSlot n s x → SlotFacts n s x
+  pub slot-facts : (x : Slot) → ValidSlot v n s x → SlotFacts v n s x
   slot-facts unused ok = tt
   slot-facts (used t) ok = task-facts t ok
 
-  pub slot-valid : (x : Slot) → SlotFacts n s x → ValidSlot n s x
+  pub slot-valid : (x : Slot) → SlotFacts v n s x → ValidSlot v n s x
   slot-valid unused f = tt
   slot-valid (used t) f = task-valid t f
 

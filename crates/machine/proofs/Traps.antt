@@ -26,14 +26,14 @@ PostShownAlike v j label s = view v (post j label 7 (view v s)) ≡ view v (post
 
 -- a live task at place 0 whose registers hold their numbers
 abbrev task : ℕ → ℕ → Task
-task label spare = record { kind = 1; label = label; spare = spare; pc = 0; registers = 0 ∷ 1 ∷ 2 ∷ 3 ∷ 4 ∷ 5 ∷ 6 ∷ 7 ∷ []; mailbox = [] }
+task label spare = record { kind = 1; label = label; clearance = 15; spare = spare; pc = 0; registers = 0 ∷ 1 ∷ 2 ∷ 3 ∷ 4 ∷ 5 ∷ 6 ∷ 7 ∷ []; mailbox = [] }
 
 abbrev message : ℕ → Message
 message label = record { label = label; sender = 9; value = 7 }
 
 -- the instruction, the task t in slot s, whose turn it is, and another task
 abbrev state : List ℕ → ℕ → Task → ℕ → Task → State
-state instruction s t s′ t′ = record { program = instruction; turnSlot = s; slots = set (set (replicate 16 unused) s (used t)) s′ (used t′) }
+state instruction s t s′ t′ = record { version = 2; program = instruction; turnSlot = s; slots = set (set (replicate 16 unused) s (used t)) s′ (used t′) }
 
 -- a send to slot j, which its register holds
 abbrev send : ℕ → ℕ → List ℕ
@@ -62,6 +62,6 @@ pub record Traps : Type 0 where
   pub crowded : PostShownAlike 0 1 0 (state (send 1 0) 0 (task 0 0) 1 (withMailbox (replicate 4 (message 1)) (task 0 0)))
 
 pub traps : Traps
-unfolding Lists.each Label.flows Table.decode Program.instructionAt Effect.execute Effect.outcome Turn.turnBy
+unfolding Lists.each Label.isSubset Table.decode Program.instructionAt Effect.execute Effect.outcome Turn.turnBy
     Turn.turnsBy Post.post View.viewBy
 traps = record { limit = refl; told = refl; child = refl; skipped = refl; oldest = refl; counted = refl; unchecked = refl; replaced = refl; posted = refl; crowded = refl }

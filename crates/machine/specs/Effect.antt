@@ -5,6 +5,7 @@ use mathlib.Core.List.{List, [], _∷_}
 use lib.Dec.{leb, ltb, eqb}
 use lib.ListN.{length, replicate}
 use Rattle.wire.specs.Lists.{keep, firstIndex}
+use Rattle.label.specs.Label.{isSubset}
 use Rattle.instruction.specs.declared.Instruction.{Instruction}
 use Rattle.instruction.specs.declared.Instruction.the-variants.{End, Set, Copy, Add, Subtract, Go, Zero, Raise, Send, Take, Poll, Sandbox, Identity, Count}
 use Rattle.instruction.specs.declared.Decoded.{Decoded}
@@ -39,9 +40,9 @@ gets a x t = withoutAction (next (withRegister a x t))
 abbrev pub receives : ℕ → ℕ → ℕ → Task → Task
 receives a b i t = next (withRegister b (message t i .sender) (withRegister a (message t i .value) (withoutMessage i t)))
 
--- the new task of a sandbox of size n by a task in slot s with label l, at place b, and the slot where it stands
-abbrev pub childOf : ℕ → ℕ → ℕ → ℕ → Task
-childOf s l b n = record { kind = 1; label = l; spare = n - 1; pc = b; registers = s ∷ replicate 7 0; mailbox = [] }
+-- the new task of a sandbox of size n by a task in slot s with label l and clearance c, at place b, and the slot where it stands
+abbrev pub childOf : ℕ → ℕ → ℕ → ℕ → ℕ → Task
+childOf s l c b n = record { kind = 1; label = l; clearance = c; spare = n - 1; pc = b; registers = s ∷ replicate 7 0; mailbox = [] }
 
 abbrev pub childSlot : ℕ → Task → ℕ → ℕ
 childSlot s t n = s + (t .spare - n) + 1
@@ -76,7 +77,8 @@ module _ (mayFlow : ℕ → ℕ → Bool) where
     execute (Subtract a b c) s t = gets a ((register t b + 2 ^ 32 - register t c) % 2 ^ 32) t
     execute (Go a) s t = withoutAction (withPc a t)
     execute (Zero a b) s t = withoutAction (cond (eqb (register t a) 0) (withPc b t) (next t))
-    execute (Raise a) s t = withoutAction (next (withLabel (joined (t .label) a) t))
+    execute (Raise a) s t =
+        cond (isSubset (joined (t .label) a) (t .clearance)) (withoutAction (next (withLabel (joined (t .label) a) t))) (stopped 6 t)
     execute (Send a b c) s t =
         cond (mayFlow (t .label) b)
         (record { task = next t; action = deliver (register t a) (record { label = b; sender = s; value = register t c }) })
@@ -85,7 +87,7 @@ module _ (mayFlow : ℕ → ℕ → Bool) where
     execute (Poll a b c) s t = taken a b (withPc c t) t
     execute (Sandbox a b c) s t =
         cond (leb c (t .spare))
-        (record { task = next (withRegister a (childSlot s t c) (withSpare (t .spare - c) t)); action = spawn (childSlot s t c) (childOf s (t .label) b c) })
+        (record { task = next (withRegister a (childSlot s t c) (withSpare (t .spare - c) t)); action = spawn (childSlot s t c) (childOf s (t .label) (t .clearance) b c) })
         (stopped 5 t)
     execute (Identity a b) s t = gets b s (withRegister a (t .label) t)
     execute (Count a) s t = gets a (found t .receivable) t

@@ -1,4 +1,5 @@
 -- The definitions of the crate `machine`, a file each.
+pub mod Version
 pub mod Limits
 pub mod State
 pub mod Effect

@@ -1,8 +1,10 @@
 -- The highest numbers and the lengths that 01 and 02 allow, each once, in 01's order. How many slots, labels and registers there
 -- are stands where they are gone through.
 use Prim.Native.Nat.{ℕ}
+use mathlib.Core.Bool.{cond}
+use Rattle.machine.specs.Version.{hasClearances}
 
--- labels, and so observers
+-- labels, and so clearances and observers
 abbrev pub highestLabel : ℕ
 highestLabel = 15
 
@@ -27,8 +29,9 @@ mostMessages = 64
 abbrev pub limitPerLabel : ℕ
 limitPerLabel = 4
 
-abbrev pub highestKind : ℕ
-highestKind = 5
+-- kinds, in an image of version v
+abbrev pub highestKind : ℕ → ℕ
+highestKind v = cond (hasClearances v) 6 5
 
 -- the sender of a post: the host, who stands in no slot. The senders below it are slots
 abbrev pub host : ℕ
@@ -42,7 +45,7 @@ abbrev pub shortestImage : ℕ
 shortestImage = 40
 
 abbrev pub longestImage : ℕ
-longestImage = 7796
+longestImage = 7812
 
 -- the turns of one call
 abbrev pub turnLimit : ℕ

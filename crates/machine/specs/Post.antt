@@ -5,7 +5,7 @@ use mathlib.Core.List.{List, []}
 use lib.Dec.{ltb}
 use lib.ListN.{length}
 use Rattle.machine.specs.Limits.{host}
-use Rattle.machine.specs.State.{Message, Slot, unused, used, State, slotAt}
+use Rattle.machine.specs.State.{Message, Slot, unused, used, State, slotAt, withSlots}
 use Rattle.machine.specs.Effect.{deliver}
 use Rattle.machine.specs.Turn.{perform}
 
@@ -15,12 +15,7 @@ hostMessage label value = record { label = label; sender = host; value = value }
 
 -- "Delivery and dropping follow the send rule, less the sender check": what a send does once its sender was checked
 unfoldable pub post : ℕ → ℕ → ℕ → State → State
-post slot label value state =
-    record {
-      program = state .program;
-      turnSlot = state .turnSlot;
-      slots = perform (deliver slot (hostMessage label value)) (state .slots);
-    }
+post slot label value state = withSlots (perform (deliver slot (hostMessage label value)) (state .slots)) state
 
 -- ---- "delivered or dropped": what became of the mailbox
 

@@ -11,11 +11,12 @@ pub record Message : Type 0 where
   pub sender : ℕ
   pub value : ℕ
 
--- kind: 1 live, 2 done, 3 ran off the program, 4 stopped by a label, 5 stopped for want of spare slots;
--- pc: 01's place, the index of the next instruction; mailbox: oldest message first
+-- kind: 1 live, 2 done, 3 ran off the program, 4 stopped by a label, 5 stopped for want of spare slots, 6 stopped by its clearance;
+-- clearance: what its label may rise to; pc: 01's place, the index of the next instruction; mailbox: oldest message first
 pub record Task : Type 0 where
   pub kind : ℕ
   pub label : ℕ
+  pub clearance : ℕ
   pub spare : ℕ
   pub pc : ℕ
   pub registers : List ℕ
@@ -25,14 +26,19 @@ pub data Slot : Type 0 where
   unused : Slot
   used : Task → Slot
 
--- program: its bytes; turnSlot: the slot whose turn is next; slots: 0 to 15 in order
+-- version: that of the image; program: its bytes; turnSlot: the slot whose turn is next; slots: 0 to 15 in order
 pub record State : Type 0 where
+  pub version : ℕ
   pub program : List ℕ
   pub turnSlot : ℕ
   pub slots : List Slot
 
 abbrev pub slotAt : List Slot → ℕ → Slot
 slotAt ss i = getD ss i unused
+
+-- a state with other slots
+abbrev pub withSlots : List Slot → State → State
+withSlots ss state = record { version = state .version; program = state .program; turnSlot = state .turnSlot; slots = ss }
 
 -- ---- what is asked of a task and of a slot; an unused slot has no right to any other
 
@@ -54,22 +60,22 @@ spareOf (used t) = t .spare
 -- ---- a task with one field changed
 
 abbrev pub withKind : ℕ → Task → Task
-withKind k t = record { kind = k; label = t .label; spare = t .spare; pc = t .pc; registers = t .registers; mailbox = t .mailbox }
+withKind k t = record { kind = k; label = t .label; clearance = t .clearance; spare = t .spare; pc = t .pc; registers = t .registers; mailbox = t .mailbox }
 
 abbrev pub withLabel : ℕ → Task → Task
-withLabel l t = record { kind = t .kind; label = l; spare = t .spare; pc = t .pc; registers = t .registers; mailbox = t .mailbox }
+withLabel l t = record { kind = t .kind; label = l; clearance = t .clearance; spare = t .spare; pc = t .pc; registers = t .registers; mailbox = t .mailbox }
 
 abbrev pub withSpare : ℕ → Task → Task
-withSpare k t = record { kind = t .kind; label = t .label; spare = k; pc = t .pc; registers = t .registers; mailbox = t .mailbox }
+withSpare k t = record { kind = t .kind; label = t .label; clearance = t .clearance; spare = k; pc = t .pc; registers = t .registers; mailbox = t .mailbox }
 
 abbrev pub withPc : ℕ → Task → Task
-withPc n t = record { kind = t .kind; label = t .label; spare = t .spare; pc = n; registers = t .registers; mailbox = t .mailbox }
+withPc n t = record { kind = t .kind; label = t .label; clearance = t .clearance; spare = t .spare; pc = n; registers = t .registers; mailbox = t .mailbox }
 
 abbrev pub withRegisters : List ℕ → Task → Task
-withRegisters rs t = record { kind = t .kind; label = t .label; spare = t .spare; pc = t .pc; registers = rs; mailbox = t .mailbox }
+withRegisters rs t = record { kind = t .kind; label = t .label; clearance = t .clearance; spare = t .spare; pc = t .pc; registers = rs; mailbox = t .mailbox }
 
 abbrev pub withMailbox : List Message → Task → Task
-withMailbox ms t = record { kind = t .kind; label = t .label; spare = t .spare; pc = t .pc; registers = t .registers; mailbox = ms }
+withMailbox ms t = record { kind = t .kind; label = t .label; clearance = t .clearance; spare = t .spare; pc = t .pc; registers = t .registers; mailbox = ms }
 
 -- ---- messages, registers and place
 

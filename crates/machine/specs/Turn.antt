@@ -52,6 +52,7 @@ module _ (mayFlow : ℕ → ℕ → Bool) (joined : ℕ → ℕ → ℕ) where
   unfoldable pub turnBy : State → State
   turnBy state =
       record {
+        version = state .version;
         program = state .program;
         turnSlot = successor (state .turnSlot);
         slots = step (state .program) (state .turnSlot) (state .slots) (current state);

@@ -3,7 +3,7 @@ use Prim.Native.Nat.{ℕ}
 use mathlib.Core.Bool.{Bool, cond}
 use mathlib.Core.List.{map}
 use Rattle.wire.specs.Lists.{keep}
-use Rattle.machine.specs.State.{Task, Slot, unused, used, State, withMailbox}
+use Rattle.machine.specs.State.{Task, Slot, unused, used, State, withSlots, withMailbox}
 
 module _ (sees : ℕ → Bool) where
   -- messages whose labels the observer does not see are left out
@@ -16,4 +16,4 @@ module _ (sees : ℕ → Bool) where
   viewSlot (used t) = cond (sees (t .label)) (used (viewTask t)) unused
 
   unfoldable pub viewBy : State → State
-  viewBy state = record { program = state .program; turnSlot = state .turnSlot; slots = map viewSlot (state .slots) }
+  viewBy state = withSlots (map viewSlot (state .slots)) state

@@ -1,7 +1,8 @@
 -- The claims of specs/Claims.antt, inhabited.
-use Prim.Native.Nat.{ℕ, _≤_}
+use Prim.Native.Nat.{ℕ, _+_, _≤_}
 use mathlib.Core.Logic.{_≢_}
-use mathlib.Core.Path.{refl, ap, _∙_}
+use mathlib.Core.Path.{_≡_, refl, ap, _∙_}
+use mathlib.Core.Bool.{true}
 use mathlib.Core.List.{List}
 use native.Mathlib.Omega.{arith}
 use borrow.Author.Tests.{le-leb, lt-leb}
@@ -9,27 +10,31 @@ use lib.Dec.{leb}
 use lib.ListN.{length}
 use Rattle.wire.specs.Output.{overwrite}
 use Rattle.wire.proofs.Lists.{length-nil}
+use Rattle.label.specs.Label.{isSubset}
 use Rattle.machine.specs.Limits.{highestLabel, highestSlot, longestImage, turnLimit}
-use Rattle.machine.specs.State.{State}
+use Rattle.machine.specs.State.{Task, Slot, unused, used, State, slotAt}
 use Rattle.machine.specs.Valid.{Valid}
 use Rattle.machine.specs.View.{viewBy}
 use Rattle.machine.specs.Post.{hostMessage, post}
 use Rattle.machine.specs.Machine.{turns, view}
 use Rattle.machine.proofs.Post.{deliver-more}
-use Rattle.machine.proofs.Machine.{turns-valid, view-valid, post-valid, view-15}
+use Rattle.machine.proofs.Machine.{turns-valid, view-valid, post-valid, turns-version, view-15}
+use Rattle.machine.proofs.Clearance.{AllApart, turns-apart, post-apart, valid-apart, apart-within}
 use Rattle.image.specs.Refusal.{unless}
 use Rattle.image.specs.Image.{stateOf, imageBytes}
 use Rattle.image.proofs.Refusal.{then-holds, unless-holds, listed-not}
 use Rattle.image.proofs.Image.{accepted-length, image-listed, image-forth, record-part, record-above, record-refused, record-inside}
 use Rattle.image.proofs.Image.{extent-none, extent-some, extent-told, extent-within}
 use Rattle.monitor.specs.Calls.{rewriteCall, turnsCall, postCall, viewCall}
+use Rattle.monitor.specs.CallList.{finalImage}
 use Rattle.monitor.specs.Claims.{NumbersAreListed, LimitsAreRefused, NoneInAnyOtherEvent, OthersAreAccepted, CallsWriteTheirAnswer, PostsTellDelivery, RecordIsItsPart}
-use Rattle.monitor.specs.Claims.{ImageLengths, ReadThenWrite, WriteThenRead, ViewIsAccepted, ViewFor15, ProgramInEveryView, Secrecy, EqualViewsAreEqualBytes}
+use Rattle.monitor.specs.Claims.{ImageLengths, ReadThenWrite, WriteThenRead, ViewIsAccepted, ViewFor15, VersionIsKept, Cleared, ClearancesHold, ProgramInEveryView, Secrecy, EqualViewsAreEqualBytes}
 use Rattle.monitor.proofs.Calls.{limit-number, observer-number, post-number, post-none, slot-given, label-given, accepted-exactly}
 use Rattle.monitor.proofs.Calls.{argument-exactly, numbers-by-cause, limit-exactly, output-accepted, writes-its-answer, number-holds, observer-listed}
 use Rattle.monitor.proofs.Posts.{refused-drops, accepted-tells}
 use Rattle.monitor.proofs.Secrecy as Secrecy
-use Rattle.monitor.proofs.Secrecy.{read-valid, rewritten, written-accepted, equal-bytes, equal-views}
+use Rattle.monitor.proofs.CallList.{read-valid, rewritten, written-accepted, final-accepted, calls-keep}
+use Rattle.monitor.proofs.Secrecy.{equal-bytes, equal-views}
 
 -- a number that a post may tell
 abbrev OfPost : ℕ → Type 0
@@ -144,6 +149,27 @@ program-in-every-view v image a =
     let s = stateOf image in
     let read = image-forth (view v s) (view-valid v s (read-valid image a)) in
     (ap (λ (r : State). r .program) read, ap (λ (r : State). r .turnSlot) read)
+
+pub version-is-kept : VersionIsKept
+unfolding stateOf viewBy post
+version-is-kept image a =
+    let s = stateOf image in (
+      λ v. ap (λ (r : State). r .version) (image-forth (view v s) (view-valid v s (read-valid image a))),
+      λ calls p. calls-keep (λ (r : State). r .version ≡ s .version) (λ n r h. turns-version n r ∙ h) (λ slot label value r h. h) calls image a p refl,
+    )
+
+pub clearances-hold : ClearancesHold
+clearances-hold image a s t at calls p d l =
+    let last = s + t .spare in
+    let c = t .clearance in
+    let end = stateOf (finalImage calls image) in
+    let apart = calls-keep (λ (r : State). AllApart s last c (r .slots)) (turns-apart s last c) (post-apart s last c) calls image a p (valid-apart (stateOf image) (read-valid image a) s t at) in
+    let ok = read-valid (finalImage calls image) (final-accepted calls image a p) in
+    each (slotAt (end .slots) (s + d)) (λ u e. apart-within s last c end ok apart (s + d) (omega arith) (omega arith) u e)
+  where
+    each : (x : Slot) → ((u : Task) → x ≡ used u → (u .clearance ≡ t .clearance) × (isSubset (u .label) (t .clearance) ≡ true)) → Cleared (t .clearance) x
+    each unused h = tt
+    each (used u) h = h u refl
 
 pub secrecy : Secrecy
 secrecy v seen image image′ a a′ e = Secrecy.secrecy v image image′ a a′ e seen

@@ -11,16 +11,17 @@ use Rattle.machine.specs.Turn as Turn
 use Rattle.machine.specs.Post as Post
 use Rattle.machine.specs.View as View
 use Rattle.machine.specs.Valid as Valid
+use Rattle.image.specs.Format as Format
 use Rattle.image.specs.Image as Image
 use Rattle.image.specs.Refusal as Refusal
 use Rattle.monitor.specs.Calls as Calls
 use Rattle.monitor.specs.Examples.{Examples}
 
 pub examples : Examples
-unfolding Lists.each Label.flows Table.decode Program.instructionAt Effect.execute Effect.outcome Turn.turnBy
-    Turn.turnsBy Turn.busyBy Post.post View.viewBy Refusal.instructionsNumber Lists.all Items.decodeItems Items.encodeItems Fields.decodeFields Fields.encodeFields Image.front Image.slotsPart Refusal.versionNumber
+unfolding Lists.each Label.isSubset Table.decode Program.instructionAt Effect.execute Effect.outcome Turn.turnBy
+    Turn.turnsBy Turn.busyBy Post.post View.viewBy Refusal.instructionsNumber Lists.all Items.decodeItems Items.encodeItems Fields.decodeFields Fields.encodeFields Format.taskSize Image.versionOf Image.front Image.slotsPart Refusal.versionNumber
     Valid.isProgramLength Refusal.programNumber Refusal.turnSlotNumber Image.recordLength Image.skip Image.slotsOf
-    Refusal.isRecordLength Refusal.slotNumber Refusal.slotsNumber Refusal.tailNumber Valid.sparesUnused
+    Refusal.isRecordLength Refusal.lengthNumber Refusal.slotNumber Refusal.slotsNumber Refusal.tailNumber Valid.sparesUnused
     Refusal.estateNumber Refusal.imageNumber Image.stateOf Image.aheadBytes Image.imageBytes Calls.callNumber Calls.callAnswer
 examples = record {
   p1 = (refl, refl);
@@ -35,6 +36,8 @@ examples = record {
   delivery = (refl, refl, refl, refl, refl, refl, refl, refl, refl);
   taken = refl;
   counted = (refl, refl, refl);
+  ceiling = (refl, refl, refl);
+  inherits = refl;
   postOrder = (refl, refl, refl, refl);
   posts = (refl, refl);
   free = record { turns = refl; posts = refl };

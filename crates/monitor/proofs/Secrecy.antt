@@ -6,7 +6,7 @@ use mathlib.Core.Bool.{Bool, true, false, cond}
 use mathlib.Core.List.{List, [], _∷_, _++_}
 use native.Mathlib.Nat.{add-zero, zero-add}
 use native.Mathlib.Omega.{arith}
-use borrow.Author.Tests.{le-leb, eqb-true}
+use borrow.Author.Tests.{le-leb}
 use lib.ListN.{length, take, replicate, length-replicate}
 use Rattle.wire.specs.Lists.{Every}
 use Rattle.wire.proofs.Lists.{split}
@@ -16,26 +16,16 @@ use Rattle.machine.specs.State.{State}
 use Rattle.machine.specs.Post.{post}
 use Rattle.machine.specs.Valid.{Valid}
 use Rattle.machine.specs.Machine.{turns, view}
-use Rattle.machine.proofs.Machine.{turns-valid, view-valid, post-valid, turns-none, turns-add, turns-same, post-shown, post-hidden}
+use Rattle.machine.proofs.Machine.{turns-valid, view-valid, turns-none, turns-add, turns-same, post-shown, post-hidden}
 use Rattle.image.specs.Refusal.{observerNumber}
 use Rattle.image.specs.Image.{stateOf, imageBytes}
-use Rattle.image.proofs.Image.{accepted-valid, image-back, image-bytes, image-accepted, image-forth}
+use Rattle.image.proofs.Image.{image-forth}
 use Rattle.monitor.specs.Calls.{callAnswer, callOutput, viewBytes, viewCall}
 use Rattle.monitor.specs.CallList.{Request, askTurns, askPost, HostCall, isAccepted, imageAfter, finalImage, turnsAsked, turnsOf, turnsCarriedOut}
-use Rattle.monitor.specs.CallList.{VisiblePost, postsAsked, postsFrom, visiblePosts, Agree, requestCall, Fits, KeptPromise, KeptPromises}
+use Rattle.monitor.specs.CallList.{VisiblePost, postsAsked, postsFrom, visiblePosts, Agree, KeptPromises}
 use Rattle.monitor.specs.Claims.{Accepted, EqualViews}
-use Rattle.monitor.proofs.Calls.{accepted-exactly, post-within, writes-its-answer, tell-the-same}
-
--- ---- accepted images and valid states
-
-pub read-valid : (image : List ℕ) → Accepted image → Valid (stateOf image)
-read-valid image a = accepted-valid image (a .bytes) (a .number)
-
-pub rewritten : (image : List ℕ) → Accepted image → imageBytes (stateOf image) ≡ image
-rewritten image a = image-back image (a .bytes) (a .number)
-
-pub written-accepted : (s : State) → Valid s → Accepted (imageBytes s)
-written-accepted s ok = record { bytes = image-bytes s ok; number = image-accepted s ok }
+use Rattle.monitor.proofs.Calls.{accepted-exactly, writes-its-answer, tell-the-same}
+use Rattle.monitor.proofs.CallList.{read-valid, carried, kept-valid, after-accepted, after-state, final-accepted}
 
 -- ---- equal views are equal bytes
 
@@ -68,56 +58,6 @@ module _ (v : ℕ) (seen : v ≤ highestLabel) where
         right = a′;
         shown = tell-the-same (viewCall v image) (viewCall v image′) refl (a .number ∙ sym (a′ .number)) e refl;
       }
-
--- ---- what a call leaves
-
--- what a request does to the state
-abbrev carried : Request → State → State
-carried (askTurns n) s = turns n s
-carried (askPost slot label value) s = post slot label value s
-
-request-bytes : (r : Request) (image : List ℕ) → requestCall r image .bytes ≡ imageBytes (carried r (stateOf image))
-request-bytes (askTurns n) image = refl
-request-bytes (askPost slot label value) image = refl
-
--- a request within its limits keeps states valid
-carried-valid : (r : Request) (image : List ℕ) → Fits r → requestCall r image .argumentNumber ≡ 0 → (s : State) → Valid s → Valid (carried r s)
-carried-valid (askTurns n) image fits none s ok = turns-valid n s ok
-carried-valid (askPost slot label value) image fits none s ok =
-    post-valid slot label value (post-within slot label none .1) fits s ok
-
-module _ (c : HostCall) (image : List ℕ) (a : Accepted image) (p : KeptPromise c image) where
-  -- the state that it leaves
-  abbrev effect : State → State
-  effect s = cond (isAccepted c) (carried (c .request) s) s
-
-  -- an accepted call's number, by what its promise says
-  number-0 : isAccepted c ≡ true → callAnswer (requestCall (c .request) image) (c .out) .number ≡ 0
-  number-0 e = rw (p .1 .0) at (eqb-true (c .told .number) 0 e)
-
-  kept-valid : isAccepted c ≡ true → (s : State) → Valid s → Valid (carried (c .request) s)
-  kept-valid e = carried-valid (c .request) image (p .0) (accepted-exactly (requestCall (c .request) image) (c .out) .0 (number-0 e) .0)
-
-  effect-valid : Valid (effect (stateOf image))
-  effect-valid = split (isAccepted c) (λ e. rw e (kept-valid e (stateOf image) (read-valid image a))) (λ e. rw e (read-valid image a))
-
-  -- an accepted call leaves the image of what it carried out, and a refused one the image itself
-  after-call : imageAfter c image ≡ imageBytes (effect (stateOf image))
-  after-call =
-      let call = requestCall (c .request) image in
-      split (isAccepted c)
-      (λ e. rw (e, p .1 .0, p .1 .1) (writes-its-answer call (c .out) .accepted (number-0 e) .2 ∙ request-bytes (c .request) image))
-      (λ e. rw e (sym (rewritten image a)))
-
-  after-accepted : Accepted (imageAfter c image)
-  after-accepted = rw after-call (written-accepted (effect (stateOf image)) effect-valid)
-
-  after-state : stateOf (imageAfter c image) ≡ effect (stateOf image)
-  after-state = rw after-call (image-forth (effect (stateOf image)) effect-valid)
-
-final-accepted : (cs : List HostCall) (image : List ℕ) → Accepted image → KeptPromises cs image → Accepted (finalImage cs image)
-final-accepted [] image a p = a
-final-accepted (c ∷ cs) image a p = final-accepted cs (imageAfter c image) (after-accepted c image a (p .0)) (p .1)
 
 -- ---- what a list shows: it ends with the view that its visible posts and its turns alone make
 

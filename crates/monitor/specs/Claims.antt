@@ -2,19 +2,20 @@
 use Prim.Native.Nat.{ℕ, _+_, _^_, _<_, _≤_}
 use mathlib.Core.Logic.{_≢_}
 use mathlib.Core.Path.{_≡_}
-use mathlib.Core.Bool.{false, _&&_}
+use mathlib.Core.Bool.{true, false, _&&_}
 use mathlib.Core.List.{List, []}
 use lib.ListN.{length, take, drop}
 use Rattle.wire.specs.Lists.{Bytes}
 use Rattle.wire.specs.Output.{overwrite}
+use Rattle.label.specs.Label.{isSubset}
 use Rattle.machine.specs.Limits.{highestLabel, highestSlot, shortestImage, longestImage, turnLimit}
-use Rattle.machine.specs.State.{State, slotAt, hasLiveTask}
+use Rattle.machine.specs.State.{Task, Slot, unused, used, State, slotAt, hasLiveTask}
 use Rattle.machine.specs.Turn.{hasRoom}
 use Rattle.machine.specs.Post.{mailOf}
 use Rattle.machine.specs.Valid.{Valid}
 use Rattle.image.specs.Record.{recordBytes}
 use Rattle.image.specs.declared.Extent.{Extent}
-use Rattle.image.specs.Image.{programOf, turnSlotOf, stateOf, imageBytes}
+use Rattle.image.specs.Image.{versionOf, programOf, turnSlotOf, stateOf, imageBytes}
 use Rattle.image.specs.Refusal.{imageNumber}
 use Rattle.image.specs.Part.{recordStart, recordPart, recordExtent}
 use Rattle.monitor.specs.declared.Answer.{Answer}
@@ -110,7 +111,7 @@ PostsTellDelivery = (slot label value : ℕ) (image out : List ℕ) → TellsDel
 -- A start and a length tell the same part: they are those of bytes within the image, and both 0 where it is empty.
 pub record IsRecordPart (image : List ℕ) (slot : ℕ) (part : List ℕ) (extent : Extent) : Type 0 where
   pub inside : part ≡ take (length part) (drop (recordStart image slot) image)
-  pub bytes : Accepted image → slot ≤ highestSlot → part ≡ recordBytes (slotAt (stateOf image .slots) slot)
+  pub bytes : Accepted image → slot ≤ highestSlot → part ≡ recordBytes (versionOf image) (slotAt (stateOf image .slots) slot)
   pub above : (slot ≤ highestSlot → ⊥) → part ≡ []
   pub refused : imageNumber image ≢ 0 → part ≡ []
   pub told : take (extent .length) (drop (extent .start) image) ≡ part
@@ -123,7 +124,7 @@ RecordIsItsPart = (image : List ℕ) (slot : ℕ) → IsRecordPart image slot (r
 
 -- ---- demand 2: images and tasks
 
--- "The shortest image has 40 bytes, the longest 7,796."
+-- "The shortest image has 40 bytes", and since 02, U5, "The longest image has 7,812 bytes."
 abbrev pub ImageLengths : Type 0
 ImageLengths = (image : List ℕ) → Accepted image → (shortestImage ≤ length image) × (length image ≤ longestImage)
 
@@ -146,6 +147,28 @@ ViewIsAccepted = (v : ℕ) (image : List ℕ) → Accepted image → Accepted (v
 -- "For label 15 it is the image."
 abbrev pub ViewFor15 : Type 0
 ViewFor15 = (image : List ℕ) → Accepted image → viewBytes 15 image ≡ image
+
+-- ---- versions and clearances (02, U5)
+
+-- "Version 1 images [..] are written as version 1": a view has the image's version, and so has what any calls leave of it
+abbrev pub VersionIsKept : Type 0
+VersionIsKept =
+    (image : List ℕ) → Accepted image
+    → ((v : ℕ) → versionOf (viewBytes v image) ≡ versionOf image)
+    × ((calls : List HostCall) → KeptPromises calls image → versionOf (finalImage calls image) ≡ versionOf image)
+
+-- a slot without a task, or with one that has clearance c and a label within it
+abbrev pub Cleared : ℕ → Slot → Type 0
+Cleared c unused = Unit {0}
+Cleared c (used t) = (t .clearance ≡ c) × (isSubset (t .label) c ≡ true)
+
+-- "The additive maker wants its helper never to touch trading figures." "A child inherits the clearance.": for a task in slot s, whatever
+-- calls follow, its own slot and those of its spare, where its children and theirs stand, are within its clearance
+abbrev pub ClearancesHold : Type 0
+ClearancesHold =
+    (image : List ℕ) → Accepted image → (s : ℕ) (t : Task) → slotAt (stateOf image .slots) s ≡ used t
+    → (calls : List HostCall) → KeptPromises calls image
+    → (d : ℕ) → d ≤ t .spare → Cleared (t .clearance) (slotAt (stateOf (finalImage calls image) .slots) (s + d))
 
 -- ---- demand 3: the secrecy rule
 

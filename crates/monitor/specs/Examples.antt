@@ -1,23 +1,26 @@
--- The checked examples that 01 marks P, and rows for posts (02, U1), counts (U4) and the secrecy rule, as one claim about the
--- definitions.
+-- The checked examples that 01 marks P, and rows for posts (02, U1), counts (U4), clearances (U5) and the secrecy rule, as one claim
+-- about the definitions.
 use Prim.Native.Nat.{ℕ, _+_}
 use mathlib.Core.Path.{_≡_}
 use mathlib.Core.Bool.{true, false}
 use mathlib.Core.List.{List, [], _∷_, _++_}
 use lib.ListN.{length, set, replicate}
 use Rattle.label.specs.Label.{flows}
-use Rattle.machine.specs.State.{Message, Task, Slot, unused, used, State, withKind, withSpare, withRegister, withMailbox, next}
+use Rattle.machine.specs.State.{Message, Task, Slot, unused, used, State, withKind, withLabel, withSpare, withRegister, withMailbox, next}
 use Rattle.machine.specs.Post.{post, delivered}
 use Rattle.machine.specs.Machine.{turns, busy, view}
 use Rattle.image.specs.Format.{taskSize}
 use Rattle.image.specs.Image.{imageBytes}
 use Rattle.image.specs.Refusal.{imageNumber}
-use Rattle.image.specs.Examples.{task, message, one, two}
+use Rattle.image.specs.Examples.{cleared, task, message, one, two}
 use Rattle.monitor.specs.Calls.{callAnswer, rewriteCall, turnsCall, postCall, viewBytes, viewCall}
 use Rattle.monitor.specs.CallList.{Request, askTurns, askPost, HostCall, VisiblePost, visiblePosts, Agree}
 
+abbrev pub stateOfVersion : ℕ → List ℕ → ℕ → List Slot → State
+stateOfVersion v program turnSlot slots = record { version = v; program = program; turnSlot = turnSlot; slots = slots }
+
 abbrev pub state : List ℕ → ℕ → List Slot → State
-state program turnSlot slots = record { program = program; turnSlot = turnSlot; slots = slots }
+state = stateOfVersion 1
 
 -- ---- B: 08 01 00 02, 00 00 00 00, 09 03 04 00, 00 00 00 00; the send's label is left open
 
@@ -98,6 +101,18 @@ counting = 0x0D ∷ 3 ∷ 0 ∷ 0 ∷ []
 abbrev pub backlog : ℕ → Task
 backlog label = withMailbox (message 2 1 7 ∷ message 0 1 7 ∷ message 2 1 7 ∷ []) (task label 0 0)
 
+-- ---- clearances: a raise with this label, in version 2, by a task in slot 0 with label 1
+
+abbrev pub raising : ℕ → List ℕ
+raising label = 0x07 ∷ label ∷ 0 ∷ 0 ∷ []
+
+abbrev pub raised : ℕ → ℕ → Task → State
+raised label turnSlot t = stateOfVersion 2 (raising label) turnSlot (one 0 t)
+
+-- a task with label 1 and this clearance
+abbrev pub helper : ℕ → ℕ → Task
+helper clearance spare = cleared 1 clearance spare 0
+
 -- ---- the rows
 
 pub record Examples : Type 0 where
@@ -140,6 +155,14 @@ pub record Examples : Type 0 where
   pub counted : (turns 1 (state counting 0 (one 0 (backlog 0))) ≡ state counting 1 (one 0 (next (withRegister 3 1 (backlog 0)))))
       × (turns 1 (state counting 0 (one 0 (backlog 2))) ≡ state counting 1 (one 0 (next (withRegister 3 3 (backlog 2)))))
       × (turns 1 (state counting 0 (one 0 (withRegister 3 9 (task 0 0 0)))) ≡ state counting 1 (one 0 (next (withRegister 3 0 (task 0 0 0)))))
+  -- U5: "A raise that would leave it stops the task with kind 6, changing nothing else; like kinds 2 to 5, kind 6 never runs again": 2 is
+  -- outside the clearance 5, and 4 is in it; 16 turns on, slot 0 has had another turn
+  pub ceiling : (turns 1 (raised 2 0 (helper 5 0)) ≡ raised 2 1 (withKind 6 (helper 5 0)))
+      × (turns 17 (raised 2 0 (helper 5 0)) ≡ raised 2 1 (withKind 6 (helper 5 0)))
+      × (turns 1 (raised 4 0 (helper 5 0)) ≡ raised 4 1 (next (withLabel 5 (helper 5 0))))
+  -- "A child inherits the clearance."
+  pub inherits : turns 1 (stateOfVersion 2 (sandbox 2) 0 (one 0 (helper 5 2)))
+      ≡ stateOfVersion 2 (sandbox 2) 1 (two 0 (next (withRegister 0 1 (withSpare 0 (helper 5 2)))) 1 (helper 5 1))
   -- "It refuses a slot above 15 with 14 and then a label above 15 with 15, both before the image is read."
   pub postOrder : (callAnswer (postCall 16 16 0 []) [] .number ≡ 14)
       × (callAnswer (postCall 15 16 0 []) [] .number ≡ 15)
@@ -162,4 +185,4 @@ pub record Examples : Type 0 where
   -- The secrecy rule speaks of images that differ: B with and without a task of label 1 in slot 9 shows observer 0 the same.
   pub hidden : (imageNumber (bImage (used (task 1 0 0))) ≡ 0) × (imageNumber (bImage unused) ≡ 0)
       × (viewBytes 0 (bImage (used (task 1 0 0))) ≡ viewBytes 0 (bImage unused))
-      × (length (bImage (used (task 1 0 0))) ≡ taskSize + length (bImage unused))
+      × (length (bImage (used (task 1 0 0))) ≡ taskSize 1 + length (bImage unused))

@@ -10,6 +10,7 @@ use Rattle.machine.specs.Effect as Effect
 use Rattle.machine.specs.Turn as Turn
 use Rattle.machine.specs.View as View
 use Rattle.machine.specs.Valid as Valid
+use Rattle.image.specs.Format as Format
 use Rattle.image.specs.Image as Image
 use Rattle.image.specs.Refusal as Refusal
 use Rattle.text.specs.Text as Text
@@ -18,10 +19,10 @@ use Rattle.sheet.specs.Claims.{Prints}
 use Rattle.sheet.proofs.Printed.{printed-long}
 
 pub prints : Prints
-unfolding Lists.each Lists.tabulate Label.flows Table.decode Program.instructionAt Effect.execute Effect.outcome Turn.turnBy
-    Turn.turnsBy View.viewBy Refusal.instructionsNumber Lists.all Items.decodeItems Items.encodeItems Fields.decodeFields Fields.encodeFields Image.front Image.slotsPart Refusal.versionNumber
+unfolding Lists.each Lists.tabulate Label.isSubset Table.decode Program.instructionAt Effect.execute Effect.outcome Turn.turnBy
+    Turn.turnsBy View.viewBy Refusal.instructionsNumber Lists.all Items.decodeItems Items.encodeItems Fields.decodeFields Fields.encodeFields Format.taskSize Image.versionOf Image.front Image.slotsPart Refusal.versionNumber
     Valid.isProgramLength Refusal.programNumber Refusal.turnSlotNumber Image.recordLength Image.skip Image.slotsOf
-    Refusal.isRecordLength Refusal.slotNumber Refusal.slotsNumber Refusal.tailNumber Valid.sparesUnused
+    Refusal.isRecordLength Refusal.lengthNumber Refusal.slotNumber Refusal.slotsNumber Refusal.tailNumber Valid.sparesUnused
     Refusal.estateNumber Refusal.imageNumber Image.stateOf Image.aheadBytes Image.imageBytes
     Text.ascii Text.digits Text.decimal Text.spaced Text.lineRest
     Sheet.heading Sheet.slotLine Sheet.slotLines Sheet.sheetText Sheet.refusalLine Sheet.printed

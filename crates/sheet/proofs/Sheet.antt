@@ -15,7 +15,7 @@ use Rattle.machine.specs.State.{Slot, unused, used, State, slotAt}
 use Rattle.machine.specs.View.{viewSlot, viewBy}
 use Rattle.machine.specs.Machine.{view}
 use Rattle.machine.specs.Valid.{ValidSlot, Valid}
-use Rattle.machine.proofs.Rules.{size-facts, task-facts}
+use Rattle.machine.proofs.Rules.{six-kinds, size-facts, task-facts}
 use Rattle.machine.proofs.Mailbox.{mailbox-64}
 use Rattle.machine.proofs.Machine.{view-valid}
 use Rattle.image.specs.Image.{stateOf}
@@ -60,16 +60,16 @@ line-length s kind label spare pc mail =
     )
 
 -- eighteen bytes at most of a slot that keeps the rules
-slot-line-length : (n s : ℕ) (x : Slot) → n ≤ 256 → ValidSlot n s x → length (slotLine s x) ≤ 18
+slot-line-length : (v n s : ℕ) (x : Slot) → n ≤ 256 → ValidSlot v n s x → length (slotLine s x) ≤ 18
 unfolding slotLine
-slot-line-length n s unused h ok = omega arith
-slot-line-length n s (used t) h ok =
-    let f = task-facts n s t ok in
+slot-line-length v n s unused h ok = omega arith
+slot-line-length v n s (used t) h ok =
+    let f = task-facts v n s t ok in
     omega (
       arith,
       line-length s (t .kind) (t .label) (t .spare) (t .pc) (length (t .mailbox)),
       decimal-width 1 s (omega (arith, f .spare)),
-      decimal-width 0 (t .kind) (omega (arith, f .kind-high)),
+      decimal-width 0 (t .kind) (omega (arith, f .kind-high, six-kinds v)),
       decimal-width 1 (t .label) (omega (arith, f .label)),
       decimal-width 1 (t .spare) (omega (arith, f .spare)),
       decimal-width 2 (t .pc) (omega (arith, f .pc)),
@@ -81,7 +81,7 @@ unfolding sheetText slotLines heading ascii tabulate
 sheet-length s ok =
     let n : count (s .program) ≤ 256 = omega (arith, size-facts (length (s .program)) (ok .size)) in
     let line : (k : ℕ) → length (slotLine k (slotAt (s .slots) k)) ≤ 18
-    = λ k. slot-line-length (count (s .program)) k (slotAt (s .slots) k) n (ok .tasks k) in
+    = λ k. slot-line-length (s .version) (count (s .program)) k (slotAt (s .slots) k) n (ok .tasks k) in
     let slots = tabulate 16 (λ k. k) in
     let lines = items-most (λ k. slotLine k (slotAt (s .slots) k)) 18 slots
     (every-of (λ k. length (slotLine k (slotAt (s .slots) k)) ≤ 18) 0 slots (λ i. line (getD slots i 0))) in

@@ -1,23 +1,28 @@
 -- The parts of a view: what is written of a message, a task and a slot, and how long it is.
-use Prim.Native.Nat.{ℕ, _+_, _*_}
+use Prim.Native.Nat.{ℕ, _+_, _*_, _<_, _≤_}
 use mathlib.Core.Path.{_≡_, refl, sym, ap, _∙_}
 use mathlib.Core.Bool.{Bool, true, false}
 use mathlib.Core.List.{List, [], _∷_, _++_}
 use native.Mathlib.Omega.{arith}
-use lib.ListN.{length, take, length-append}
+use lib.ListN.{length, take, set, length-append}
+use lib.Seq.{set-set}
 use Rattle.label.specs.Label.{flows}
 use Rattle.wire.specs.Lists.{keep}
 use Rattle.wire.specs.Numbers.{encodeNumber}
 use Rattle.wire.specs.Items.{encodeItems}
 use Rattle.wire.specs.Output.{overwrite}
 use Rattle.wire.proofs.Items.{items-map, items-keep, length-items}
+use Rattle.machine.specs.Version.{hasClearances}
 use Rattle.machine.specs.State.{Message, Task, Slot, unused, used, slotAt}
 use Rattle.machine.specs.View.{viewTask, viewSlot, viewBy}
-use Rattle.wire.proofs.Fields.{length-fields}
-use Rattle.image.specs.Format.{taskFields}
+use Rattle.wire.specs.Fields.{encodeFields}
+use Rattle.wire.proofs.Lists.{split}
+use Rattle.wire.proofs.Output.{stores-behind}
+use Rattle.wire.proofs.Fields.{byte-low, length-fields}
+use Rattle.image.specs.Format.{taskFields, taskSize}
 use Rattle.image.specs.Record.{taskNumbers, messageBytes}
-use Rattle.image.specs.Image.{programOf, slotBytes, aheadBytes, imageBytes}
-use Rattle.image.specs.Inner.{headBytes}
+use Rattle.image.specs.Image.{versionOf, programOf, slotBytes, aheadBytes, imageBytes}
+use Rattle.image.specs.Inner.{headBytes, clearanceWidth}
 use Rattle.image.proofs.Offsets.{task-parts}
 use Rattle.image.proofs.Records.{length-message}
 use Rattle.image.proofs.Front.{ahead-length}
@@ -50,7 +55,11 @@ module _ (v : ℕ) (t : Task) where
 
 -- ---- a task: its record's length, its fields, its registers and its messages
 
-module _ (v : ℕ) (t : Task) (eight : length (t .registers) ≡ 8) where
+-- the numbers of its fields ahead of the registers
+abbrev pub headNumbers : Task → List ℕ
+headNumbers t = t .kind ∷ t .label ∷ t .clearance ∷ t .spare ∷ t .pc ∷ []
+
+module _ (version v : ℕ) (t : Task) (eight : length (t .registers) ≡ 8) where
   abbrev registers : List ℕ
   registers = encodeItems (encodeNumber 4) (t .registers)
 
@@ -58,26 +67,50 @@ module _ (v : ℕ) (t : Task) (eight : length (t .registers) ≡ 8) where
   mailbox = encodeItems (shownMessage v) (t .mailbox)
 
   abbrev head : List ℕ
-  head = headBytes (t .kind ∷ t .label ∷ t .spare ∷ t .pc ∷ [])
+  head = headBytes version (headNumbers t)
 
-  record-length : length (head ++ registers ++ mailbox) ≡ 37 + length mailbox
+  record-length : length (head ++ registers ++ mailbox) ≡ taskSize version + length mailbox
+  unfolding taskSize
   record-length =
-      length-append (head ++ registers) mailbox ∙ ap (λ (n : ℕ). n + length mailbox) (ap length (sym (task-parts t eight)) ∙ length-fields taskFields (taskNumbers t))
+      length-append (head ++ registers) mailbox
+      ∙ ap (λ (n : ℕ). n + length mailbox) (ap length (sym (task-parts version t eight)) ∙ length-fields (taskFields version) (taskNumbers t))
 
-  pub task-shown : shownTask v t ≡ encodeNumber 2 (37 + length mailbox) ++ head ++ registers ++ mailbox
+  pub task-shown : shownTask version v t ≡ encodeNumber 2 (taskSize version + length mailbox) ++ head ++ registers ++ mailbox
   unfolding shownTask
-  task-shown = rw (mailbox-shown v t, task-parts t eight) (ap (λ (n : ℕ). encodeNumber 2 n ++ head ++ registers ++ mailbox) record-length)
+  task-shown = rw (mailbox-shown v t, task-parts version t eight) (ap (λ (n : ℕ). encodeNumber 2 n ++ head ++ registers ++ mailbox) record-length)
 
-  pub task-length : length (shownTask v t) ≡ 39 + length mailbox
+  pub task-length : length (shownTask version v t) ≡ 2 + taskSize version + length mailbox
   task-length = rw task-shown (omega (arith, record-length))
 
-pub head-length : (xs : List ℕ) → length (headBytes xs) ≡ 5
-head-length = length-fields (take 4 taskFields)
-
 -- what was written of a length and fields, by what these are
-pub head-same : {n n′ : ℕ} {xs xs′ after : List ℕ} (out : List ℕ) → n ≡ n′ → xs ≡ xs′
-    → after ≡ overwrite (encodeNumber 2 n ++ headBytes xs) out → after ≡ overwrite (encodeNumber 2 n′ ++ headBytes xs′) out
-head-same out e f wrote = wrote ∙ (λ i. overwrite (encodeNumber 2 (e i) ++ headBytes (f i)) out)
+pub head-same : (version : ℕ) {n n′ : ℕ} {xs xs′ after : List ℕ} (out : List ℕ) → n ≡ n′ → xs ≡ xs′
+    → after ≡ overwrite (encodeNumber 2 n ++ headBytes version xs) out → after ≡ overwrite (encodeNumber 2 n′ ++ headBytes version xs′) out
+head-same version out e f wrote = wrote ∙ (λ i. overwrite (encodeNumber 2 (e i) ++ headBytes version (f i)) out)
+
+-- four bytes are stored one after another, and where the clearance has none the spare is stored over it; the place stands behind them
+module _ (version kind label clearance spare pc : ℕ) where
+  abbrev four : List ℕ
+  four = encodeFields (take 4 (taskFields version)) (kind ∷ label ∷ clearance ∷ spare ∷ [])
+
+  pub four-stored : (width : ℕ) (size out xs : List ℕ) → (kind < 256) × (label < 256) × (clearance < 256) × (spare < 256) → length size ≡ 2
+      → width ≡ clearanceWidth version → 7 + width ≤ length out → xs ≡ overwrite size out
+      → set (set (set (set xs 2 kind) 3 label) 4 clearance) (4 + width) spare ≡ overwrite (size ++ four) out
+  unfolding encodeFields
+  four-stored width size out xs low two e room wrote =
+      let k = byte-low kind (low .0) in
+      let l = byte-low label (low .1) in
+      let c = byte-low clearance (low .2) in
+      let s = byte-low spare (low .3) in
+      split (hasClearances version)
+      (λ t. let one : width ≡ 1 = rw t at e in rw (t, one, k, l, c, s) (stores-behind size (kind ∷ label ∷ clearance ∷ spare ∷ []) out xs 2 two (omega arith) wrote))
+      (λ t. let none : width ≡ 0 = rw t at e in rw (t, none, k, l, s, set-set) (stores-behind size (kind ∷ label ∷ spare ∷ []) out xs 2 two (omega arith) wrote))
+
+  pub four-length : length four ≡ 3 + clearanceWidth version
+  four-length = length-fields (take 4 (taskFields version)) (kind ∷ label ∷ clearance ∷ spare ∷ []) ∙ omega arith
+
+  pub head-four : headBytes version (kind ∷ label ∷ clearance ∷ spare ∷ pc ∷ []) ≡ four ++ encodeNumber 2 pc
+  unfolding encodeFields
+  head-four = split (hasClearances version) (λ t. rw t) (λ t. rw t)
 
 -- ---- a slot
 
@@ -109,28 +142,28 @@ unfolding isShown
 viewSlot-hidden v unused e = refl
 viewSlot-hidden v (used t) e = rw e
 
-pub slot-shown : (v : ℕ) (x : Slot) → isShown v x ≡ true → shownSlot v x ≡ shownTask v (taskOr x)
+pub slot-shown : (version v : ℕ) (x : Slot) → isShown v x ≡ true → shownSlot version v x ≡ shownTask version v (taskOr x)
 unfolding shownSlot shownTask
-slot-shown v x e = ap slotBytes (viewSlot-shown v x e)
+slot-shown version v x e = ap (slotBytes version) (viewSlot-shown v x e)
 
 -- a slot in the table that the observer sees
-module _ (words : List ℕ) (s v : ℕ) (shown : isShown v (slotAt (slotsIn words) s) ≡ true) where
+module _ (words : List ℕ) (s version v : ℕ) (shown : isShown v (slotAt (slotsIn words) s) ≡ true) where
   shown-registers : length (taskAt (slotsIn words) s .registers) ≡ 8
   shown-registers = used-registers words s (taskAt (slotsIn words) s) (shown-used v (slotsIn words) s shown)
 
-  pub shown-length : length (shownSlot v (slotAt (slotsIn words) s)) ≡ 39 + length (encodeItems (shownMessage v) (taskAt (slotsIn words) s .mailbox))
-  shown-length = ap length (slot-shown v (slotAt (slotsIn words) s) shown) ∙ task-length v (taskAt (slotsIn words) s) shown-registers
+  pub shown-length : length (shownSlot version v (slotAt (slotsIn words) s)) ≡ 2 + taskSize version + length (encodeItems (shownMessage v) (taskAt (slotsIn words) s .mailbox))
+  shown-length = ap length (slot-shown version v (slotAt (slotsIn words) s) shown) ∙ task-length version v (taskAt (slotsIn words) s) shown-registers
 
-pub slot-hidden : (v : ℕ) (x : Slot) → isShown v x ≡ false → shownSlot v x ≡ 0 ∷ 0 ∷ []
+pub slot-hidden : (version v : ℕ) (x : Slot) → isShown v x ≡ false → shownSlot version v x ≡ 0 ∷ 0 ∷ []
 unfolding shownSlot
-slot-hidden v x e = ap slotBytes (viewSlot-hidden v x e)
+slot-hidden version v x e = ap (slotBytes version) (viewSlot-hidden v x e)
 
 -- ---- the whole
 
-pub snapshot-parts : (words image : List ℕ) (turn v : ℕ) → snapshotBytes words image turn v ≡ aheadBytes (programOf image) turn ++ encodeItems (shownSlot v) (slotsIn words)
-unfolding snapshotBytes shownSlot viewBy imageBytes
-snapshot-parts words image turn v = rw (items-map slotBytes (viewSlot (λ l. flows l v)) (slotsIn words))
+module _ (words image : List ℕ) (turn v : ℕ) where
+  pub snapshot-parts : snapshotBytes words image turn v ≡ aheadBytes (versionOf image) (programOf image) turn ++ encodeItems (shownSlot (versionOf image) v) (slotsIn words)
+  unfolding snapshotBytes shownSlot viewBy imageBytes
+  snapshot-parts = rw (items-map (slotBytes (versionOf image)) (viewSlot (λ l. flows l v)) (slotsIn words))
 
-pub snapshot-length : (words image : List ℕ) (turn v : ℕ) → length (snapshotBytes words image turn v) ≡ 3 + length (programOf image) + 1 + length (encodeItems (shownSlot v) (slotsIn words))
-snapshot-length words image turn v =
-    rw (snapshot-parts words image turn v, length-append, ahead-length (programOf image) turn)
+  pub snapshot-length : length (snapshotBytes words image turn v) ≡ 3 + length (programOf image) + 1 + length (encodeItems (shownSlot (versionOf image) v) (slotsIn words))
+  snapshot-length = rw (snapshot-parts, length-append, ahead-length (versionOf image) (programOf image) turn)

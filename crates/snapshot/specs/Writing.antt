@@ -7,21 +7,21 @@ use Rattle.machine.specs.State.{Message, Task, Slot, unused, used}
 use Rattle.machine.specs.View.{viewTask, viewSlot}
 use Rattle.machine.specs.Machine.{view}
 use Rattle.image.specs.Record.{messageBytes}
-use Rattle.image.specs.Image.{programOf, slotBytes, imageBytes}
+use Rattle.image.specs.Image.{versionOf, programOf, slotBytes, imageBytes}
 use Rattle.table.specs.Table.{stateIn}
 
--- the image of the tasks in the table, with the image's program, in the view for label v
+-- the image of the tasks in the table, with the image's version and program, in the view for label v
 unfoldable pub snapshotBytes : List ℕ → List ℕ → ℕ → ℕ → List ℕ
-snapshotBytes words image turnSlot v = imageBytes (view v (stateIn (programOf image) turnSlot words))
+snapshotBytes words image turnSlot v = imageBytes (view v (stateIn (versionOf image) (programOf image) turnSlot words))
 
 -- ---- its parts
 
 -- a slot in the view, and a task that is in it
-unfoldable pub shownSlot : ℕ → Slot → List ℕ
-shownSlot v x = slotBytes (viewSlot (λ l. flows l v) x)
+unfoldable pub shownSlot : ℕ → ℕ → Slot → List ℕ
+shownSlot version v x = slotBytes version (viewSlot (λ l. flows l v) x)
 
-unfoldable pub shownTask : ℕ → Task → List ℕ
-shownTask v t = slotBytes (used (viewTask (λ l. flows l v) t))
+unfoldable pub shownTask : ℕ → ℕ → Task → List ℕ
+shownTask version v t = slotBytes version (used (viewTask (λ l. flows l v) t))
 
 -- a message: no bytes where it is left out
 unfoldable pub shownMessage : ℕ → Message → List ℕ

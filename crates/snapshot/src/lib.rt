@@ -10,9 +10,10 @@ ghost use Rattle.wire.specs.Inner.{written};
 ghost use Rattle.label.specs.Label.{flows};
 ghost use Rattle.machine.specs.State.{slotAt};
 ghost use Rattle.machine.specs.View.{viewTask};
+ghost use Rattle.image.specs.Format.{taskSize};
 ghost use Rattle.image.specs.Record.{messageBytes};
 ghost use Rattle.image.specs.Image.{aheadBytes};
-ghost use Rattle.image.specs.Inner.{headBytes};
+ghost use Rattle.image.specs.Inner.{headBytes, clearanceWidth};
 ghost use Rattle.table.specs.Table.{slotsIn};
 ghost use Rattle.table.specs.Change.{taskAt, Used, messageAt};
 ghost use Rattle.snapshot.specs.Writing.{snapshotBytes, shownSlot, shownTask, shownMessage, isShown};
@@ -41,10 +42,8 @@ pub fn mail_shown(table: &table::Table, slot: usize, observer: u8) -> usize
 
 // ---- sizes in bytes, known before the first byte is written
 
-// Where the registers and the mailbox of a slot begin, behind the length of its record.
-const REGISTERS_FROM: usize = 2 + image::REGISTERS_AT;
-
-const MAILBOX_FROM: usize = 2 + image::MAILBOX_AT;
+// How many bytes the length of a record has, which stands ahead of it.
+const LENGTH_SIZE: usize = 2;
 
 // How many bytes of a mailbox.
 fn mailbox_size(table: &table::Table, slot: usize, observer: u8) -> usize
@@ -55,25 +54,25 @@ fn mailbox_size(table: &table::Table, slot: usize, observer: u8) -> usize
 }
 
 // How many bytes of a slot, with the length in front.
-fn slot_size(table: &table::Table, slot: usize, observer: u8) -> usize
+fn slot_size(table: &table::Table, slot: usize, version: u8, observer: u8) -> usize
     requires { ⌜ slot < 16 ⌝ }
-    ensures { λ r. ⌜ (r ≡ length (shownSlot observer (slotAt (slotsIn (now (table .entry))) slot))) × (r ≤ 423) ⌝ }
+    ensures { λ r. ⌜ (r ≡ length (shownSlot version observer (slotAt (slotsIn (now (table .entry))) slot))) × (r ≤ 424) ⌝ }
 {
     if is_shown(table, slot, observer) {
-        MAILBOX_FROM + mailbox_size(table, slot, observer)
+        LENGTH_SIZE + image::task_size(version) + mailbox_size(table, slot, observer)
     } else {
-        2
+        LENGTH_SIZE
     }
 }
 
 // How many bytes of all slots.
-fn slots_size(table: &table::Table, observer: u8) -> usize
-    ensures { λ r. ⌜ (r ≡ length (encodeItems (shownSlot observer) (slotsIn (now (table .entry))))) × (r ≤ 6768) ⌝ }
+fn slots_size(table: &table::Table, version: u8, observer: u8) -> usize
+    ensures { λ r. ⌜ (r ≡ length (encodeItems (shownSlot version observer) (slotsIn (now (table .entry))))) × (r ≤ 6784) ⌝ }
 {
     let mut n: usize = 0;
     let mut slot: usize = 0;
     while slot < 16 {
-        n += slot_size(table, slot, observer);
+        n += slot_size(table, slot, version, observer);
         slot += 1;
     }
     n
@@ -136,87 +135,103 @@ fn write_registers(out: &mut [u8], table: &table::Table, slot: usize)
     }
 }
 
-// Writes the length of a record and the fields ahead of the registers.
-fn write_fields(out: &mut [u8], size: usize, kind: u8, label: u8, spare: u8, pc: u32)
-    requires { ⌜ 7 ≤ length (now out) ⌝ }
-    ensures { λ _. ⌜ now (out .exit) ≡ overwrite (encodeNumber 2 size ++ headBytes (kind ∷ label ∷ spare ∷ pc ∷ [])) (now (out .entry)) ⌝ }
+// Writes the length of a record and the fields ahead of the registers. Where the clearance has no byte, the spare is stored over it.
+fn write_fields(
+    out: &mut [u8],
+    version: u8,
+    size: usize,
+    kind: u8,
+    label: u8,
+    clearance: u8,
+    spare: u8,
+    pc: u32,
+)
+    requires { ⌜ 7 + clearanceWidth version ≤ length (now out) ⌝ }
+    ensures { λ _. ⌜ now (out .exit)
+        ≡ overwrite (encodeNumber 2 size ++ headBytes version (kind ∷ label ∷ clearance ∷ spare ∷ pc ∷ [])) (now (out .entry)) ⌝ }
 {
+    let width = image::clearance_width(version);
     wire::encode_u16(out, size);
     out[2] = kind;
     out[3] = label;
-    out[4] = spare;
-    wire::encode_u16(&mut out[5..], pc as usize);
+    out[4] = clearance;
+    out[4 + width] = spare;
+    wire::encode_u16(&mut out[5 + width..], pc as usize);
 }
 
 // Writes a task that the observer sees: the record's length, the fields, the registers and the mailbox. How many bytes.
-fn write_task(out: &mut [u8], table: &table::Table, slot: usize, observer: u8) -> usize
+fn write_task(out: &mut [u8], table: &table::Table, slot: usize, version: u8, observer: u8) -> usize
     requires { ⌜ Used slot (slotsIn (now table))
-        × (39 + length (encodeItems (shownMessage observer) (taskAt (slotsIn (now table)) slot .mailbox)) ≤ length (now out)) ⌝ }
-    ensures { λ r. ⌜ (r ≡ length (shownTask observer (taskAt (slotsIn (now (table .entry))) slot))) × (r ≤ 423)
-        × (now (out .exit) ≡ overwrite (shownTask observer (taskAt (slotsIn (now (table .entry))) slot)) (now (out .entry))) ⌝ }
+        × (2 + taskSize version + length (encodeItems (shownMessage observer) (taskAt (slotsIn (now table)) slot .mailbox)) ≤ length (now out)) ⌝ }
+    ensures { λ r. ⌜ (r ≡ length (shownTask version observer (taskAt (slotsIn (now (table .entry))) slot))) × (r ≤ 424)
+        × (now (out .exit) ≡ overwrite (shownTask version observer (taskAt (slotsIn (now (table .entry))) slot)) (now (out .entry))) ⌝ }
 {
     let n = mailbox_size(table, slot, observer);
     let kind = table::kind(table, slot);
     let label = table::label(table, slot);
+    let clearance = table::clearance(table, slot);
     let spare = table::spare(table, slot);
     let pc = table::pc(table, slot);
-    write_fields(out, image::MAILBOX_AT + n, kind, label, spare, pc);
-    write_registers(&mut out[REGISTERS_FROM..], table, slot);
-    write_mailbox(&mut out[MAILBOX_FROM..], table, slot, observer);
-    MAILBOX_FROM + n
+    let size = image::task_size(version);
+    let registers = LENGTH_SIZE + image::REGISTERS_AT + image::clearance_width(version);
+    write_fields(out, version, size + n, kind, label, clearance, spare, pc);
+    write_registers(&mut out[registers..], table, slot);
+    write_mailbox(&mut out[LENGTH_SIZE + size..], table, slot, observer);
+    LENGTH_SIZE + size + n
 }
 
 // Writes a slot's record behind its length; where the observer sees no task, the slot is written as unused. How many bytes.
-fn write_slot(out: &mut [u8], table: &table::Table, slot: usize, observer: u8) -> usize
-    requires { ⌜ (slot < 16) × (length (shownSlot observer (slotAt (slotsIn (now table)) slot)) ≤ length (now out)) ⌝ }
-    ensures { λ r. ⌜ (r ≡ length (shownSlot observer (slotAt (slotsIn (now (table .entry))) slot))) × (r ≤ 423)
-        × (now (out .exit) ≡ overwrite (shownSlot observer (slotAt (slotsIn (now (table .entry))) slot)) (now (out .entry))) ⌝ }
+fn write_slot(out: &mut [u8], table: &table::Table, slot: usize, version: u8, observer: u8) -> usize
+    requires { ⌜ (slot < 16) × (length (shownSlot version observer (slotAt (slotsIn (now table)) slot)) ≤ length (now out)) ⌝ }
+    ensures { λ r. ⌜ (r ≡ length (shownSlot version observer (slotAt (slotsIn (now (table .entry))) slot))) × (r ≤ 424)
+        × (now (out .exit) ≡ overwrite (shownSlot version observer (slotAt (slotsIn (now (table .entry))) slot)) (now (out .entry))) ⌝ }
 {
     if is_shown(table, slot, observer) {
-        write_task(out, table, slot, observer)
+        write_task(out, table, slot, version, observer)
     } else {
         wire::encode_u16(out, 0);
-        2
+        LENGTH_SIZE
     }
 }
 
 // Writes the sixteen slots, each into the part of the output that begins where the one before it ends.
-fn write_slots(out: &mut [u8], table: &table::Table, observer: u8)
-    requires { ⌜ length (encodeItems (shownSlot observer) (slotsIn (now table))) ≤ length (now out) ⌝ }
-    ensures { λ _. ⌜ now (out .exit) ≡ overwrite (encodeItems (shownSlot observer) (slotsIn (now (table .entry)))) (now (out .entry)) ⌝ }
+fn write_slots(out: &mut [u8], table: &table::Table, version: u8, observer: u8)
+    requires { ⌜ length (encodeItems (shownSlot version observer) (slotsIn (now table))) ≤ length (now out) ⌝ }
+    ensures { λ _. ⌜ now (out .exit) ≡ overwrite (encodeItems (shownSlot version observer) (slotsIn (now (table .entry)))) (now (out .entry)) ⌝ }
 {
     let mut at: usize = 0;
     let mut slot: usize = 0;
     while slot < 16 {
-        at += write_slot(&mut out[at..], table, slot, observer);
+        at += write_slot(&mut out[at..], table, slot, version, observer);
         slot += 1;
     }
 }
 
 // Writes what stands ahead of the slots: version, program length, program, turn slot.
-fn write_head(out: &mut [u8], program: &[u8], turn: u8)
+fn write_head(out: &mut [u8], version: u8, program: &[u8], turn: u8)
     requires { ⌜ 3 + length (now program) + 1 ≤ length (now out) ⌝ }
-    ensures { λ _. ⌜ now (out .exit) ≡ overwrite (aheadBytes (now (program .entry)) turn) (now (out .entry)) ⌝ }
+    ensures { λ _. ⌜ now (out .exit) ≡ overwrite (aheadBytes version (now (program .entry)) turn) (now (out .entry)) ⌝ }
 {
-    wire::put_byte(out, 1);
+    wire::put_byte(out, version);
     wire::encode_u16(&mut out[1..], program.len());
     wire::copy(&mut out[image::PROGRAM_AT..], program);
     wire::put_byte(&mut out[image::PROGRAM_AT + program.len()..], turn);
 }
 
-// Writes the table's tasks as the observer sees them, with the image's program, as an image: its length, and its bytes
-// where the output has room for them all.
+// Writes the table's tasks as the observer sees them, with the image's version and program, as an image: its length, and its
+// bytes where the output has room for them all.
 pub fn write(out: &mut [u8], table: &table::Table, image: &[u8], turn: u8, observer: u8) -> usize
     ensures { λ r. ⌜ (r ≡ length (snapshotBytes (now (table .entry)) (now (image .entry)) turn observer))
         × (now (out .exit) ≡ written (snapshotBytes (now (table .entry)) (now (image .entry)) turn observer) (now (out .entry))) ⌝ }
 {
+    let version = image::version(image);
     let program = image::program(image);
     let head = image::PROGRAM_AT + program.len() + 1;
-    let length = head + slots_size(table, observer);
+    let length = head + slots_size(table, version, observer);
     if out.len() < length {
         return length;
     }
-    write_head(out, program, turn);
-    write_slots(&mut out[head..], table, observer);
+    write_head(out, version, program, turn);
+    write_slots(&mut out[head..], table, version, observer);
     length
 }

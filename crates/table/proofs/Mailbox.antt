@@ -24,7 +24,7 @@ use Rattle.table.proofs.Slots.{used-slot, mailbox-read, frame-change}
 -- ---- one slot's words
 
 -- a mailbox whose count was stored last
-mailbox-stored : (w u : List ℕ) → length u ≡ 84 → (x : ℕ) → ((k : ℕ) → k < 13 → getD u k 0 ≡ getD w k 0)
+mailbox-stored : (w u : List ℕ) → length u ≡ 84 → (x : ℕ) → ((k : ℕ) → k < 16 → k ≢ 13 → getD u k 0 ≡ getD w k 0)
     → taskIn (set u 12 x) ≡ withMailbox (tabulate (min x 64) (messageIn u)) (taskIn w)
 mailbox-stored w u long x fields = count-stored x u long ∙ rw (fields-kept w u fields)
 
@@ -34,7 +34,7 @@ module _ (w u : List ℕ) (long : length u ≡ 84) (n : ℕ) (count : n ≡ min 
   append-task m room p =
       let more : min (n + 1) 64 ≡ suc n = omega arith in
       let old : min (getD w 12 0) 64 ≡ n = omega arith in
-      mailbox-stored w u long (n + 1) (λ k h. p .fields k (omega arith))
+      mailbox-stored w u long (n + 1) (λ k h _. p .fields k h)
       ∙ ap (λ (ms : List Message). withMailbox ms (taskIn w)) (rw (more, old) (tabulate-append n (messageIn w) (messageIn u) m (p .before) (p .last)))
 
   remove-task : (i : ℕ) → i < n → Without i n w u → taskIn (set u 12 (n - 1)) ≡ withMailbox (without i (taskIn w .mailbox)) (taskIn w)
@@ -42,7 +42,7 @@ module _ (w u : List ℕ) (long : length u ≡ 84) (n : ℕ) (count : n ≡ min 
   remove-task i h p =
       let less : min (n - 1) 64 ≡ n - 1 = omega arith in
       let old : min (getD w 12 0) 64 ≡ suc (n - 1) = omega arith in
-      mailbox-stored w u long (n - 1) (λ k h. p .fields k (omega arith) (λ e. omega arith))
+      mailbox-stored w u long (n - 1) (p .fields)
       ∙ ap (λ (ms : List Message). withMailbox ms (taskIn w))
       (rw (less, old)
       (tabulate-without (n - 1) (messageIn w) (messageIn u) i (omega arith)
@@ -59,7 +59,7 @@ mail-task w u i sender value h small fits q =
     = λ j l ne. message-same w u j j (λ b k. rw (q .planes b k)) (q .others j (omega arith) ne) in
     let this : messageIn u i ≡ record { label = messageIn w i .label; sender = sender; value = value }
     = rw (label-same 4 (planeIn u) (planeIn w) i i (λ b k. rw (q .planes b k)), q .mail, word-sender sender value small fits, word-value sender value small fits) in
-    fields-kept w u (λ k l. q .fields k (omega arith))
+    fields-kept w u (λ k l _. q .fields k l)
     ∙ ap (λ (ms : List Message). withMailbox ms (taskIn w))
     (tabulate-set n (messageIn w) (messageIn u) i others h ∙ ap (set (tabulate n (messageIn w)) i) (this ∙ rw (getD-tabulate n (messageIn w) i noMessage h)))
 
@@ -96,7 +96,7 @@ open-slots t t₁ u s n plane l many p q =
     let each : (i : ℕ) → i < n → messageIn w₁ i ≡ record { label = labelFrom 4 plane i; sender = messageIn w i .sender; value = messageIn w i .value }
     = λ i h. rw (label-same 4 (planeIn w₁) plane i i (λ b k. ap (bit i) (p .here .changed b k)), p .here .fields 13 (omega arith), p .here .ring) in
     frame-change t u s l (λ j k ne. q .other j k ne ∙ p .other j k ne) (withMailbox (opened n (labelFrom 4 plane) w)) (λ k. refl)
-    (ap taskIn (q .here) ∙ mailbox-stored w w₁ (window-length t₁ s) n (λ k h. p .here .fields k (omega arith))
+    (ap taskIn (q .here) ∙ mailbox-stored w w₁ (window-length t₁ s) n (λ k h _. p .here .fields k h)
     ∙ rw all (ap (λ (ms : List Message). withMailbox ms (taskIn w))
     (tabulate-same n (λ i. record { label = labelFrom 4 plane i; sender = messageIn w i .sender; value = messageIn w i .value }) (messageIn w₁) each)))
 

@@ -48,10 +48,10 @@ module _ (x : ℕ) (w : List ℕ) (long : length w ≡ 84) where
   unfolding taskIn tabulate messageIn
   count-stored = by-fields (λ v. taskIn (set v 12 x) ≡ withMailbox (tabulate (min x 64) (messageIn v)) (taskIn v)) (λ h r. refl) w long
 
-pub task-stored : (k l s p : ℕ) (w : List ℕ) → k < 256 → l < 256 → s < 256 → p < 4294967296
-    → taskIn (set (set (set (set (cleared 16 w) 0 k) 1 l) 2 s) 3 p) ≡ newTask k l s p
+pub task-stored : (k l c s p : ℕ) (w : List ℕ) → k < 256 → l < 256 → c < 256 → s < 256 → p < 4294967296
+    → taskIn (set (set (set (set (set (cleared 16 w) 0 k) 1 l) 14 c) 2 s) 3 p) ≡ newTask k l c s p
 unfolding taskIn tabulate
-task-stored k l s p w a b c d = rw (low-byte k a, low-byte l b, low-byte s c, low-four p d)
+task-stored k l c s p w h g e f d = rw (low-byte k h, low-byte l g, low-byte c e, low-byte s f, low-four p d)
 
 -- a word is stored among the registers
 registers-stored : (a x : ℕ) (w : List ℕ) → length w ≡ 84 → a < 8 → x < 4294967296
@@ -76,21 +76,23 @@ register-stored a x w long h fits =
       same 2 (λ e. omega arith),
       same 3 (λ e. omega arith),
       same 12 (λ e. omega arith),
+      same 14 (λ e. omega arith),
       registers-stored a x w long h fits,
       tabulate-same (min (getD w 12 0) 64) (messageIn w) (messageIn u) (λ i _. message-kept w u (drop-set-lt 16 w (4 + a) x (omega arith)) start i),
     )
 
 -- a task whose fields stay: only its mailbox may change
-pub fields-kept : (w u : List ℕ) → ((k : ℕ) → k < 13 → getD u k 0 ≡ getD w k 0)
+pub fields-kept : (w u : List ℕ) → ((k : ℕ) → k < 16 → k ≢ 13 → getD u k 0 ≡ getD w k 0)
     → taskIn u ≡ withMailbox (tabulate (min (getD w 12 0) 64) (messageIn u)) (taskIn w)
 unfolding taskIn
 fields-kept w u same =
     rw (
-      same 0 (omega arith),
-      same 1 (omega arith),
-      same 2 (omega arith),
-      same 3 (omega arith),
-      same 12 (omega arith),
+      same 0 (omega arith) (λ e. omega arith),
+      same 1 (omega arith) (λ e. omega arith),
+      same 2 (omega arith) (λ e. omega arith),
+      same 3 (omega arith) (λ e. omega arith),
+      same 12 (omega arith) (λ e. omega arith),
+      same 14 (omega arith) (λ e. omega arith),
       tabulate-same 8 (λ b. lowFour (getD (drop 4 w) b 0)) (λ b. lowFour (getD (drop 4 u) b 0))
-          (λ b h. ap (λ (y : ℕ). lowFour y) (getD-drop 4 u b 0 ∙ same (4 + b) (omega arith) ∙ sym (getD-drop 4 w b 0))),
+          (λ b h. ap (λ (y : ℕ). lowFour y) (getD-drop 4 u b 0 ∙ same (4 + b) (omega arith) (λ e. omega arith) ∙ sym (getD-drop 4 w b 0))),
     )

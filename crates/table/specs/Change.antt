@@ -10,7 +10,7 @@ use Rattle.table.specs.Table.{messageIn, held}
 -- ---- reading
 
 abbrev pub noTask : Task
-noTask = record { kind = 0; label = 0; spare = 0; pc = 0; registers = []; mailbox = [] }
+noTask = record { kind = 0; label = 0; clearance = 0; spare = 0; pc = 0; registers = []; mailbox = [] }
 
 abbrev pub taskOr : Slot → Task
 taskOr unused = noTask
@@ -56,6 +56,6 @@ unfoldable pub opened : ℕ → (ℕ → ℕ) → List ℕ → List Message
 opened n label w = tabulate n (λ i. record { label = label i; sender = messageIn w i .sender; value = messageIn w i .value })
 
 -- a task with registers 0 and no messages
-abbrev pub newTask : ℕ → ℕ → ℕ → ℕ → Task
-newTask kind label spare pc =
-    record { kind = kind; label = label; spare = spare; pc = pc; registers = replicate 8 0; mailbox = [] }
+abbrev pub newTask : ℕ → ℕ → ℕ → ℕ → ℕ → Task
+newTask kind label clearance spare pc =
+    record { kind = kind; label = label; clearance = clearance; spare = spare; pc = pc; registers = replicate 8 0; mailbox = [] }

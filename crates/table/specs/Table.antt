@@ -32,6 +32,9 @@ countWord = 12
 abbrev pub startWord : ℕ
 startWord = 13
 
+abbrev pub clearanceWord : ℕ
+clearanceWord = 14
+
 abbrev pub planesWord : ℕ
 planesWord = 16
 
@@ -79,6 +82,7 @@ taskIn w =
     record {
       kind = lowByte (getD w kindWord 0);
       label = lowByte (getD w labelWord 0);
+      clearance = lowByte (getD w clearanceWord 0);
       spare = lowByte (getD w spareWord 0);
       pc = lowFour (getD w pcWord 0);
       registers = tabulate 8 (λ a. lowFour (getD (drop registersWord w) a 0));
@@ -93,6 +97,6 @@ held t = cond (eqb (t .kind) 0) unused (used t)
 unfoldable pub slotsIn : List ℕ → List Slot
 slotsIn t = tabulate 16 (λ s. held (taskIn (window t s)))
 
--- the tasks in the table, with a program and a turn slot
-abbrev pub stateIn : List ℕ → ℕ → List ℕ → State
-stateIn program turnSlot t = record { program = program; turnSlot = turnSlot; slots = slotsIn t }
+-- the tasks in the table, with a version, a program and a turn slot
+abbrev pub stateIn : ℕ → List ℕ → ℕ → List ℕ → State
+stateIn version program turnSlot t = record { version = version; program = program; turnSlot = turnSlot; slots = slotsIn t }

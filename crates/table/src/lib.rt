@@ -23,8 +23,8 @@ pub type Table = [u64; WORDS];
 
 const MAILBOX_ROOM: usize = 64;
 
-// A slot's words: one for each field, one for each plane of the messages' labels, and a ring of 64 for the messages. The two
-// words behind START are free; the first is kept for a clearance.
+// A slot's words: one for each field, one for each plane of the messages' labels, and a ring of 64 for the messages. The word behind
+// CLEARANCE is free.
 const KIND: usize = 0;
 
 const LABEL: usize = 1;
@@ -38,6 +38,8 @@ const REGISTERS: usize = 4;
 const COUNT: usize = 12;
 
 const START: usize = 13;
+
+const CLEARANCE: usize = 14;
 
 const PLANES: usize = 16;
 
@@ -107,6 +109,14 @@ pub fn label(t: &Table, s: usize) -> u8
     ensures { λ r. ⌜ r ≡ taskAt (slotsIn (now (t .entry))) s .label ⌝ }
 {
     byte(word(t, s, LABEL))
+}
+
+// The clearance of the task in slot s.
+pub fn clearance(t: &Table, s: usize) -> u8
+    requires { ⌜ Used s (slotsIn (now t)) ⌝ }
+    ensures { λ r. ⌜ r ≡ taskAt (slotsIn (now (t .entry))) s .clearance ⌝ }
+{
+    byte(word(t, s, CLEARANCE))
 }
 
 // The spare slots that the task in slot s has a right to.
@@ -429,13 +439,14 @@ fn clear_fields(t: &mut Table, s: usize)
 }
 
 // Slot s holds a new task in place of what it held, with registers 0 and no messages; kind 0 leaves it unused.
-pub fn put_task(t: &mut Table, s: usize, kind: u8, label: u8, spare: u8, pc: u32)
+pub fn put_task(t: &mut Table, s: usize, kind: u8, label: u8, clearance: u8, spare: u8, pc: u32)
     requires { ⌜ s < 16 ⌝ }
-    ensures { λ _. ⌜ slotsIn (now (t .exit)) ≡ set (slotsIn (now (t .entry))) s (held (newTask kind label spare pc)) ⌝ }
+    ensures { λ _. ⌜ slotsIn (now (t .exit)) ≡ set (slotsIn (now (t .entry))) s (held (newTask kind label clearance spare pc)) ⌝ }
 {
     clear_fields(t, s);
     put(t, s, KIND, kind as u64);
     put(t, s, LABEL, label as u64);
+    put(t, s, CLEARANCE, clearance as u64);
     put(t, s, SPARE, spare as u64);
     put(t, s, PC, pc as u64);
 }

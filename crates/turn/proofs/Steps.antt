@@ -24,6 +24,7 @@ use Rattle.machine.proofs.Rules.{TaskFacts, size-facts, slot-facts}
 use Rattle.machine.proofs.Machine.{turns-valid, turns-none, turns-more, turns-add, busy-none, busy-more, busy-add}
 use Rattle.machine.proofs.Bounds.{turns-within, turns-idle}
 use Rattle.table.specs.Change.{taskOr, taskAt, Used, slotWithKind}
+use Rattle.turn.specs.Answer.{runningAt}
 use Rattle.effect.specs.Effects.{executed, Ready, WasDecoded}
 use Rattle.effect.proofs.Effects.{kind-here, valid-room}
 
@@ -51,9 +52,9 @@ was-decoded program pc i e =
 
 -- pc: the place that was read
 module _ (program : List ℕ) (s : ℕ) (ss : List Slot) (live : hasLiveTask (slotAt ss s) ≡ true) {pc : ℕ} (place : pc ≡ taskAt ss s .pc) where
-  module _ (ok : Valid (record { program = program; turnSlot = s; slots = ss })) where
-    own : TaskFacts (count program) s (taskAt ss s)
-    own = rw (live-here ss s live) at (slot-facts (count program) s (slotAt ss s) (ok .tasks s))
+  module _ (ok : Valid (runningAt program s ss)) where
+    own : TaskFacts 2 (count program) s (taskAt ss s)
+    own = rw (live-here ss s live) at (slot-facts 2 (count program) s (slotAt ss s) (ok .tasks s))
 
     -- with place N it gets kind 3: no place is above
     pub act-ends : count program ≤ pc → set ss s (slotWithKind 3 (slotAt ss s)) ≡ applied s (outcome flows join program s (taskAt ss s)) ss
@@ -95,7 +96,7 @@ module _ (ss : List Slot) (s : ℕ) {k : ℕ} (kind : k ≡ taskAt ss s .kind) w
 
 module _ (program : List ℕ) (s : ℕ) (ss : List Slot) where
   turn-live : hasLiveTask (slotAt ss s) ≡ true
-      → applied s (outcome flows join program s (taskAt ss s)) ss ≡ turns 1 (record { program = program; turnSlot = s; slots = ss }) .slots
+      → applied s (outcome flows join program s (taskAt ss s)) ss ≡ turns 1 (runningAt program s ss) .slots
   unfolding Turn.turnsBy Turn.turnBy
   turn-live = live (slotAt ss s)
     where
@@ -107,18 +108,18 @@ module _ (program : List ℕ) (s : ℕ) (ss : List Slot) where
 
 -- a run of n turns from a state has come to these slots, at turn slot s, and met so many live tasks
 pub record Ran (start : State) (program : List ℕ) (n s : ℕ) (ss : List Slot) (met : ℕ) : Type 0 where
-  pub state : record { program = program; turnSlot = s; slots = ss } ≡ turns n start
+  pub state : runningAt program s ss ≡ turns n start
   pub met-is : met ≡ busy n start
 
-pub ran-none : (start : State) → Ran start (start .program) 0 (start .turnSlot) (start .slots) 0
-ran-none start = record { state = turns-none start; met-is = sym (busy-none start) }
+pub ran-none : (program : List ℕ) (s : ℕ) (ss : List Slot) → Ran (runningAt program s ss) program 0 s ss 0
+ran-none program s ss = let start = runningAt program s ss in record { state = turns-none start; met-is = sym (busy-none start) }
 
 module _ {start : State} {program : List ℕ} {n s : ℕ} {ss : List Slot} {met : ℕ} (ran : Ran start program n s ss met) where
-  turns-next : (ss′ : List Slot) → ss′ ≡ turns 1 (record { program = program; turnSlot = s; slots = ss }) .slots
-      → record { program = program; turnSlot = (s + 1) % 16; slots = ss′ } ≡ turns (n + 1) start
+  turns-next : (ss′ : List Slot) → ss′ ≡ turns 1 (runningAt program s ss) .slots
+      → runningAt program ((s + 1) % 16) ss′ ≡ turns (n + 1) start
   unfolding Turn.turnsBy Turn.turnBy
   turns-next ss′ e =
-      ap (λ (rs : List Slot). record { program = program; turnSlot = (s + 1) % 16; slots = rs }) e ∙ ap (Turn.turnBy flows join) (ran .state) ∙ sym (turns-more n start)
+      ap (λ (rs : List Slot). runningAt program ((s + 1) % 16) rs) e ∙ ap (Turn.turnBy flows join) (ran .state) ∙ sym (turns-more n start)
 
   busy-next : busy (n + 1) start ≡ met + cond (hasLiveTask (slotAt ss s)) 1 0
   busy-next =
@@ -131,8 +132,8 @@ module _ {start : State} {program : List ℕ} {n s : ℕ} {ss : List Slot} {met 
   ran-live live {ss′} e = record { state = turns-next ss′ (e ∙ turn-live program s ss live); met-is = sym (busy-next ∙ rw live) }
 
   -- k turns more, told by the state that they begin with
-  pub ran-round : (k s′ : ℕ) (ss′ : List Slot) (more : ℕ) → let at : State = record { program = program; turnSlot = s; slots = ss } in
-      more ≡ busy k at → record { program = program; turnSlot = s′; slots = ss′ } ≡ turns k at → Ran start program (n + k) s′ ss′ (met + more)
+  pub ran-round : (k s′ : ℕ) (ss′ : List Slot) (more : ℕ) → let at : State = runningAt program s ss in
+      more ≡ busy k at → runningAt program s′ ss′ ≡ turns k at → Ran start program (n + k) s′ ss′ (met + more)
   ran-round k s′ ss′ more counted state = record {
     state = state ∙ ap (turns k) (ran .state) ∙ sym (turns-add n k start);
     met-is = ap (λ (m : ℕ). m + more) (ran .met-is)
@@ -143,11 +144,11 @@ module _ {start : State} {program : List ℕ} {n s : ℕ} {ss : List Slot} {met 
   -- k turns of slots without a live task are passed over
   pub ran-past : (k : ℕ) → s ≤ 15 → s + k ≤ 16 → ((j : ℕ) → s ≤ j → j < s + k → hasLiveTask (slotAt ss j) ≡ false) → Ran start program (n + k) ((s + k) % 16) ss met
   ran-past k low fits none =
-      let past = turns-idle (record { program = program; turnSlot = s; slots = ss }) low k fits none in
+      let past = turns-idle (runningAt program s ss) low k fits none in
       let same : met + 0 ≡ met = omega arith in
       rw same at (ran-round k ((s + k) % 16) ss 0 (sym (past .1)) (past .0))
 
-  pub ran-valid : Valid start → Valid (record { program = program; turnSlot = s; slots = ss })
+  pub ran-valid : Valid start → Valid (runningAt program s ss)
   ran-valid ok = subst Valid (sym (ran .state)) (turns-valid n start ok)
 
   pub ran-within : (bottom top : ℕ) → Within bottom top (start .slots) → Within bottom top ss

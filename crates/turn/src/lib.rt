@@ -9,15 +9,15 @@ ghost use Rattle.machine.specs.Turn.{applied};
 ghost use Rattle.machine.specs.Valid.{Valid};
 ghost use Rattle.machine.specs.Machine.{turns, busy};
 ghost use Rattle.machine.specs.Inner.{bottomOf, topBehind, topOf, Within};
-ghost use Rattle.table.specs.Table.{slotsIn, stateIn};
+ghost use Rattle.table.specs.Table.{slotsIn};
 ghost use Rattle.table.specs.Change.{taskAt};
-ghost use Rattle.turn.specs.Answer.{runTold};
+ghost use Rattle.turn.specs.Answer.{running, runTold};
 
 // ---- the turn of a slot
 
 // What a live task does with its turn: with place N it gets kind 3, else it carries out one instruction. No place is above N.
 fn act(table: &mut table::Table, program: &[u8], slot: u8)
-    requires { ⌜ Valid (stateIn (now program) slot (now table)) × (hasLiveTask (slotAt (slotsIn (now table)) slot) ≡ true) ⌝ }
+    requires { ⌜ Valid (running (now program) slot (now table)) × (hasLiveTask (slotAt (slotsIn (now table)) slot) ≡ true) ⌝ }
     ensures { λ _. ⌜ slotsIn (now (table .exit))
         ≡ applied slot (outcome flows join (now (program .entry)) slot (taskAt (slotsIn (now (table .entry))) slot)) (slotsIn (now (table .entry))) ⌝ }
 {
@@ -102,10 +102,10 @@ fn round_end(slot: u8, left: u64) -> u8
 // The turns of the slots from `first` up to `end`, each followed by the next: how many met a live task. The slots below `bottom` and
 // from `top` on are unused and stay so, and are passed over. It counts the slots without a live task, so that a live task's turn counts nothing.
 fn round(table: &mut table::Table, program: &[u8], first: u8, end: u8, bottom: u8, top: u8) -> u64
-    requires { ⌜ Valid (stateIn (now program) first (now table)) × (first ≤ end) × (end ≤ 16) × Within bottom top (slotsIn (now table)) ⌝ }
-    ensures { λ r. ⌜ (r ≡ busy (end - first) (stateIn (now (program .entry)) first (now (table .entry))))
-        × (stateIn (now (program .entry)) (end % 16) (now (table .exit))
-        ≡ turns (end - first) (stateIn (now (program .entry)) first (now (table .entry)))) ⌝ }
+    requires { ⌜ Valid (running (now program) first (now table)) × (first ≤ end) × (end ≤ 16) × Within bottom top (slotsIn (now table)) ⌝ }
+    ensures { λ r. ⌜ (r ≡ busy (end - first) (running (now (program .entry)) first (now (table .entry))))
+        × (running (now (program .entry)) (end % 16) (now (table .exit))
+        ≡ turns (end - first) (running (now (program .entry)) first (now (table .entry)))) ⌝ }
 {
     let stop = min(end, top) as usize;
     let from = max(first, bottom) as usize;
@@ -139,9 +139,9 @@ pub struct RunAnswer {
 
 // n turns of the tasks in the table, the first that of slot `first`.
 pub fn turns(table: &mut table::Table, program: &[u8], first: u8, n: u64) -> RunAnswer
-    requires { ⌜ Valid (stateIn (now program) first (now table)) ⌝ }
-    ensures { λ r. ⌜ (r ≡ runTold n (stateIn (now (program .entry)) first (now (table .entry))))
-        × (slotsIn (now (table .exit)) ≡ turns n (stateIn (now (program .entry)) first (now (table .entry))) .slots) ⌝ }
+    requires { ⌜ Valid (running (now program) first (now table)) ⌝ }
+    ensures { λ r. ⌜ (r ≡ runTold n (running (now (program .entry)) first (now (table .entry))))
+        × (slotsIn (now (table .exit)) ≡ turns n (running (now (program .entry)) first (now (table .entry))) .slots) ⌝ }
 {
     let mut slot = first;
     let mut busy: u64 = 0;

@@ -1,5 +1,6 @@
 -- Numbers one after another, each in a field of its own width.
 use Prim.Native.Nat.{ℕ, zero, suc, _+_}
+use mathlib.Core.Bool.{Bool, cond}
 use mathlib.Core.List.{List, [], _∷_, _++_}
 use lib.ListN.{getD, drop}
 use Rattle.wire.specs.Numbers.{decodeNumber, encodeNumber}
@@ -12,6 +13,10 @@ pub record Field : Type 0 where
 -- a field of w bytes
 abbrev pub bytes : ℕ → Field
 bytes w = record { width = w; absent = 0 }
+
+-- w bytes where the test passes, and else none, which are read as d
+abbrev pub bytesIf : Bool → ℕ → ℕ → Field
+bytesIf test w d = record { width = cond test w 0; absent = d }
 
 -- how many bytes fields have together
 abbrev pub size : List Field → ℕ

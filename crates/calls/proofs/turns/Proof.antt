@@ -9,16 +9,14 @@ use denote.Ref.{now}
 use Rattle.wire.specs.Lists.{Bytes}
 use Rattle.wire.proofs.Lists.{IsByte, every-of}
 use Rattle.machine.specs.Limits.{turnLimit}
-use Rattle.machine.specs.State.{State}
-use Rattle.machine.specs.Machine as Machine
+use Rattle.machine.specs.Inner.{withVersion}
 use Rattle.image.specs.Image.{stateOf}
 use Rattle.image.specs.Refusal.{imageNumber}
-use Rattle.table.specs.Table.{stateIn}
 use Rattle.snapshot.specs.Writing.{snapshotBytes}
 use Rattle.turn.specs.declared.RunAnswer.{RunAnswer}
-use Rattle.turn.specs.Answer.{runTold}
+use Rattle.turn.specs.Answer.{running}
 use Rattle.monitor.proofs.Calls.{call-beyond, call-refused, call-accepted}
-use Rattle.calls.proofs.Pipeline.{state-loaded, loaded-valid, turns-written}
+use Rattle.calls.proofs.Pipeline.{state-loaded, loaded-valid, ran-as, turns-written}
 use Rattle.calls.proofs.turns.Statement.{statement}
 use Rattle.calls.proofs.turns.Tie as tie
 
@@ -34,7 +32,7 @@ module _ (p : tie.After-program) where
   bytes : Bytes image
   bytes = every-of IsByte 0 image (λ i. p .before .before .before .before .before .before .before .before .before .shared-slice-known .given i .fits)
 
-  same : stateIn (now (p .program .result)) (p .before .before .turn-slot .result) (p .before .before .before .load .last .0) ≡ stateOf image
+  same : running (now (p .program .result)) (p .before .before .turn-slot .result) (p .before .before .before .load .last .0) ≡ withVersion 2 (stateOf image)
   same = state-loaded image _ _ _ (p .program .ensures) (p .before .before .turn-slot .ensures) (p .before .before .before .load .ensures)
 
 turns-requires : tie.Need-turns-requires
@@ -54,8 +52,9 @@ returns-2 c =
     let r = c .before .before .before .before .before .turns in
     let p = c .before .before .before .before .before .before in
     let n = p .before .before .before .before .before .before .before .before .before .before .args .count in
-    let told = r .ensures .0 ∙ ap (runTold n) (same p) in
-    let ran = r .ensures .1 ∙ ap (λ (s : State). Machine.turns n s .slots) (same p) in
+    let told-as = ran-as n (image p) (same p) in
+    let told = r .ensures .0 ∙ told-as .0 in
+    let ran = r .ensures .1 ∙ told-as .1 in
     let written =
     ap (λ (x : RunAnswer). snapshotBytes (r .last .0) (image p) (x .turn) 15) told
     ∙ turns-written (image p) (bytes p) (r .last .0) (accepted (p .before .before .before .before .before)) n ran in

@@ -1,23 +1,32 @@
--- `effect::raise` meets its contract: the label, then the place.
+-- `effect::raise` meets its contract: the label, then the place; or kind 6.
 use mathlib.Core.Path.{refl}
 use Rattle.machine.specs.State.{withLabel}
 use Rattle.table.proofs.Change.{change-change}
 use Rattle.table.proofs.Slots.{used-slot}
-use Rattle.effect.proofs.Effects.{raise-done, goes-on}
+use Rattle.effect.proofs.Effects.{raise-done, raise-stopped, goes-on}
 use Rattle.effect.proofs.raise.Statement.{statement}
 use Rattle.effect.proofs.raise.Tie as tie
 
 advance-requires : tie.Need-advance-requires
 advance-requires c κs =
-    let b = c .before .before .before .before .before .before in
+    let b = c .before .before .before .before .before .before .before .before .before .before in
     rw (c .before .set-label .ensures) (goes-on (withLabel _) (λ t. refl) (b .pre .goes))
 
 returns : tie.Need-returns
 returns c =
-    let b = c .before .before .before .before .before .before .before in
-    let own = c .before .before .before .before .before .label in
+    let test = c .before .before .before .before in
+    let join = test .before .before .before .before in
+    let b = join .before .before .before in
     rw (c .advance .ensures, c .before .before .set-label .ensures, change-change)
-    (raise-done (b .pre) _ (own .ensures) (c .before .before .before .join .ensures))
+    (raise-done (b .pre) _ (join .before .label .ensures) (join .join .ensures) (test .before .before .clearance .ensures) (test .before .is-subset .ensures) (test .if1 .taken))
+
+returns-2 : tie.Need-returns-2
+returns-2 c =
+    let test = c .before .before in
+    let join = test .before .before .before .before in
+    let b = join .before .before .before in
+    rw (c .set-kind .ensures)
+    (raise-stopped (b .pre) _ (join .before .label .ensures) (join .join .ensures) (test .before .before .clearance .ensures) (test .before .is-subset .ensures) (test .if1 .left))
 
 pub raise-spec : {M : Type 1} → statement M
 raise-spec =
@@ -25,6 +34,10 @@ raise-spec =
     (tie.spec
     (λ c κs. c .before .pre .goes .here)
     (λ c κs. tt)
-    (λ c κs. used-slot _ _ (c .before .before .before .before .pre .goes .here))
+    (λ c κs. c .before .before .before .before .pre .goes .here)
+    (λ c κs. tt)
+    (λ c κs. used-slot _ _ (c .before .before .before .before .before .before .before .before .pre .goes .here))
     advance-requires
-    returns)
+    (λ c κs. c .before .before .before .before .before .before .before .before .pre .goes .here)
+    returns
+    returns-2)

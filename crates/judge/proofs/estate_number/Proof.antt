@@ -7,4 +7,9 @@ pub estate-number-spec : {M : Type 1} → statement M
 unfolding estateNumber
 estate-number-spec =
     tie.close
-    (tie.spec (λ c κs. tt) (λ c κs. tt) (λ c κs. tt) (λ c. rw (← c .before .before .slots-part .ensures, ← c .before .spares-unused .ensures) (c .unless .ensures)))
+    (tie.spec
+    (λ c κs. tt)
+    (λ c κs. tt)
+    (λ c κs. tt)
+    (λ c κs. tt)
+    (λ c. rw (← c .before .before .before .version .ensures, ← c .before .before .slots-part .ensures, ← c .before .spares-unused .ensures) (c .unless .ensures)))

@@ -3,19 +3,26 @@ use mathlib.Core.Path.{_≡_}
 use denote.Ref.{now}
 use Rattle.instruction.specs.Program.{count}
 use Rattle.image.specs.Refusal.{_then_, slotsNumber, tailNumber, estateNumber, imageNumber}
-use Rattle.image.specs.Image.{programOf, slotsPart}
+use Rattle.image.specs.Image.{versionOf, programOf, slotsPart}
 use Rattle.image.proofs.Refusal.{then-stop}
 use Rattle.image.proofs.Image.{image-number}
 use Rattle.judge.proofs.number.Statement.{statement}
 use Rattle.judge.proofs.number.Tie as tie
 
 -- what is left once all ahead of the slots is in order, and once the slots are
-after-head : (c : tie.Else1) → let b = now (c .before .before .before .args .image) in imageNumber b ≡ (slotsNumber 16 0 (count (programOf b)) (slotsPart b) then tailNumber b then estateNumber b)
+after-head : (c : tie.Else1) → let b = now (c .before .before .before .args .image) in imageNumber b ≡ (slotsNumber (versionOf b) 16 0 (count (programOf b)) (slotsPart b) then tailNumber b then estateNumber b)
 after-head c = rw (image-number, ← c .before .head-number .ensures, c .if1 .left)
 
-after-slots : (c : tie.Else2) → let b = now (c .before .before .before .before .before .before .before .args .image) in imageNumber b ≡ (tailNumber b then estateNumber b)
+after-slots : (c : tie.Else2) → let b = now (c .before .before .before .before .before .before .before .before .args .image) in imageNumber b ≡ (tailNumber b then estateNumber b)
 after-slots c =
-    rw (after-head (c .before .before .before .before), ← c .before .before .program .ensures, ← c .before .before .before .slots-part .ensures, ← c .before .slots-number .ensures, c .if2 .left)
+    rw (
+      after-head (c .before .before .before .before .before),
+      ← c .before .before .program .ensures,
+      ← c .before .before .before .slots-part .ensures,
+      ← c .before .before .before .before .version .ensures,
+      ← c .before .slots-number .ensures,
+      c .if2 .left,
+    )
 
 returns : tie.Need-returns
 returns c = rw (image-number, ← c .before .head-number .ensures, then-stop _ (c .if1 .taken))
@@ -23,9 +30,10 @@ returns c = rw (image-number, ← c .before .head-number .ensures, then-stop _ (
 returns-2 : tie.Need-returns-2
 returns-2 c =
     rw (
-      after-head (c .before .before .before .before),
+      after-head (c .before .before .before .before .before),
       ← c .before .before .program .ensures,
       ← c .before .before .before .slots-part .ensures,
+      ← c .before .before .before .before .version .ensures,
       ← c .before .slots-number .ensures,
       then-stop _ (c .if2 .taken),
     )
@@ -42,6 +50,7 @@ number-spec =
     (tie.spec
     (λ c κs. tt)
     returns
+    (λ c κs. tt)
     (λ c κs. tt)
     (λ c κs. tt)
     (λ c κs. tt)

@@ -1,41 +1,18 @@
--- `judge::slot_number` meets its contract: the code makes the tests of `slotNumber`, in their order.
-use Prim.Native.Nat.{_+_}
-use mathlib.Core.Path.{_≡_}
-use borrow.Author.Tests.{lt-leb, le-leb}
+-- `judge::slot_number` meets its contract, by what it calls: the length's number, then the record's.
 use native.Mathlib.Omega.{arith}
-use denote.Ref.{now}
-use lib.Dec.{leb}
-use lib.ListN.{length}
-use Rattle.image.specs.Refusal.{_then_, unless, recordNumber, slotNumber}
-use Rattle.image.specs.Record.{slotOf}
-use Rattle.image.specs.Image.{recordOf}
+use Rattle.image.specs.Refusal.{slotNumber}
+use Rattle.image.proofs.Refusal.{then-stop}
 use Rattle.judge.proofs.slot_number.Statement.{statement}
 use Rattle.judge.proofs.slot_number.Tie as tie
 
 returns : tie.Need-returns
 unfolding slotNumber
-returns c = rw (lt-leb _ _ (c .if1 .taken))
-
--- the tests that are left once the length is there
-tests : (c : tie.After-is-record-length) → let a = c .before .before .before .before .args in slotNumber (a .slot) (a .n) (now (a .b))
-    ≡ (unless (c .is-record-length .result) 8
-    then unless (leb (2 + c .before .record-length .result) (length (now (a .b)))) 3
-    then recordNumber (a .slot) (a .n) (slotOf (recordOf (now (a .b)))))
-unfolding slotNumber
-tests c = rw (le-leb _ _ (c .before .before .if1 .left), c .is-record-length .ensures, c .before .record-length .ensures .0)
+returns c = rw (← c .before .length-number .ensures, then-stop _ (c .if1 .taken))
 
 returns-2 : tie.Need-returns-2
+unfolding slotNumber
 returns-2 c =
-    simp (tests (c .before .before .before .before), c .before .before .before .if2 .taken, c .before .before .if3 .taken, ← c .before .front-record .ensures)
-    (c .record-number .ensures)
-
-returns-3 : tie.Need-returns-3
-returns-3 c = simp (tests (c .before .before), c .before .if2 .taken, c .if3 .left)
-
-returns-4 : tie.Need-returns-4
-returns-4 c = simp (tests (c .before), c .if2 .left)
+    rw (← c .before .before .before .length-number .ensures, c .before .before .if1 .left, ← c .before .front-record .ensures) (c .record-number .ensures)
 
 pub slot-number-spec : {M : Type 1} → statement M
-slot-number-spec =
-    tie.close
-    (tie.spec returns (λ c κs. tt) (λ c κs. tt) (λ c. omega arith) (λ c κs. tt) (λ c κs. omega arith) returns-2 returns-3 returns-4)
+slot-number-spec = tie.close (tie.spec (λ c κs. tt) returns (λ c κs. tt) (λ c κs. omega arith) returns-2)

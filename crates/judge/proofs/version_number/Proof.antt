@@ -10,7 +10,7 @@ returns c = rw (lt-leb _ _ (c .if1 .taken))
 
 returns-2 : tie.Need-returns-2
 unfolding versionNumber
-returns-2 c = rw (le-leb _ _ (c .before .before .if1 .left), ← c .before .byte-at .ensures) (c .unless .ensures)
+returns-2 c = rw (le-leb _ _ (c .before .before .if1 .left), ← c .before .version .ensures) (c .unless .ensures)
 
 pub version-number-spec : {M : Type 1} → statement M
 version-number-spec = tie.close (tie.spec returns (λ c κs. tt) (λ c κs. tt) returns-2)

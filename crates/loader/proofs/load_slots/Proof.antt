@@ -17,11 +17,11 @@ use Rattle.loader.proofs.load_slots.Statement.{statement}
 use Rattle.loader.proofs.load_slots.Tie as tie
 
 abbrev Inv-loop : tie.InvT-loop
-Inv-loop table₀ slots rest₀ slot₀ table rest slot =
-    (slot ≤ 16) × (rest ≡ skip slot slots) × (slotsIn table ≡ take slot (slotsOf 16 slots) ++ drop slot (slotsIn table₀))
+Inv-loop table₀ version slots rest₀ slot₀ table rest slot =
+    (slot ≤ 16) × (rest ≡ skip slot slots) × (slotsIn table ≡ take slot (slotsOf version 16 slots) ++ drop slot (slotsIn table₀))
 
 abbrev μ-loop : tie.MeasureT-loop
-μ-loop table₀ slots rest₀ slot₀ table rest slot = 16 - slot
+μ-loop table₀ version slots rest₀ slot₀ table rest slot = 16 - slot
 
 load-slot-requires : tie.Need-load-slot-requires Inv-loop μ-loop
 load-slot-requires c κs =
@@ -37,7 +37,7 @@ loop-again c =
       omega arith,
       c .behind .ensures ∙ ap behind (h .inv .1) ∙ sym (skip-next (h .slot) b),
       c .before .load-slot .ensures
-          ∙ load-next b (slotsIn (now (a .table))) (h .slot) _ _ (omega arith) (length-slots (now (a .table))) (h .inv .2) (c .before .before .front-record .ensures ∙ ap recordOf (h .inv .1)),
+          ∙ load-next (a .version) b (slotsIn (now (a .table))) (h .slot) _ _ (omega arith) (length-slots (now (a .table))) (h .inv .2) (c .before .before .front-record .ensures ∙ ap recordOf (h .inv .1)),
     )
 
 returns : tie.Need-returns Inv-loop μ-loop
@@ -45,7 +45,7 @@ returns c =
     let a = c .before .before .before .args in
     let b = now (a .slots) in
     let end : c .before .loop .slot ≡ 16 = omega arith in
-    rw end at (c .before .loop .inv .2) ∙ copy-all (slotsOf 16 b) (slotsIn (now (a .table))) 16 (le-of-eq (length-slotsOf 16 b)) (le-of-eq (length-slots (now (a .table))))
+    rw end at (c .before .loop .inv .2) ∙ copy-all (slotsOf (a .version) 16 b) (slotsIn (now (a .table))) 16 (le-of-eq (length-slotsOf (a .version) 16 b)) (le-of-eq (length-slots (now (a .table))))
 
 pub load-slots-spec : {M : Type 1} → statement M
 load-slots-spec =

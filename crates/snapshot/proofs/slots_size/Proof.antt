@@ -15,25 +15,25 @@ use Rattle.snapshot.proofs.slots_size.Statement.{statement}
 use Rattle.snapshot.proofs.slots_size.Tie as tie
 
 abbrev Inv-loop : tie.InvT-loop
-Inv-loop table observer n₀ slot₀ n slot =
-    (slot ≤ 16) × (n ≤ 423 * slot)
-    × (length (encodeItems (shownSlot observer) (slotsIn table)) ≡ n + length (encodeItems (shownSlot observer) (drop slot (slotsIn table))))
+Inv-loop table version observer n₀ slot₀ n slot =
+    (slot ≤ 16) × (n ≤ 424 * slot)
+    × (length (encodeItems (shownSlot version observer) (slotsIn table)) ≡ n + length (encodeItems (shownSlot version observer) (drop slot (slotsIn table))))
 
 abbrev μ-loop : tie.MeasureT-loop
-μ-loop table observer n₀ slot₀ n slot = 16 - slot
+μ-loop table version observer n₀ slot₀ n slot = 16 - slot
 
 loop-again : tie.Need-loop-again Inv-loop μ-loop
 loop-again c =
     let a = c .before .before .before .args in
     let h = c .before .before .loop in
     let more : h .slot < length (slotsIn (now (a .table))) = omega (arith, length-slots (now (a .table))) in
-    (omega arith, omega arith, count-next (shownSlot (a .observer)) (slotsIn (now (a .table))) (h .slot) (h .n) (c .slot-size .result) unused more (c .slot-size .ensures .0) (h .inv .2))
+    (omega arith, omega arith, count-next (shownSlot (a .version) (a .observer)) (slotsIn (now (a .table))) (h .slot) (h .n) (c .slot-size .result) unused more (c .slot-size .ensures .0) (h .inv .2))
 
 returns : tie.Need-returns Inv-loop μ-loop
 returns c =
     let a = c .before .before .args in
     let h = c .before .loop in
-    (count-all (shownSlot (a .observer)) (slotsIn (now (a .table))) (h .slot) (h .n) (omega (arith, length-slots (now (a .table)))) (h .inv .2), omega arith)
+    (count-all (shownSlot (a .version) (a .observer)) (slotsIn (now (a .table))) (h .slot) (h .n) (omega (arith, length-slots (now (a .table)))) (h .inv .2), omega arith)
 
 pub slots-size-spec : {M : Type 1} → statement M
 slots-size-spec =

@@ -21,12 +21,13 @@ returns c =
     let room : 3 + length program + 1 ≤ length out = s .pre in
     let size = encodeNumber 2 (length program) in
     let e = c .before .before .before .before .before .before .before .before .before .before in
-    let version = e .before .before .before .before .put-byte .ensures ∙ written-fits (1 ∷ []) out (omega arith) in
-    let sized = lent-fits (1 ∷ []) size out 1 refl (omega arith) version (e .encode-u16 .ensures) in
-    let copied = lent-fits (1 ∷ size) program out 3 refl (omega arith) sized (c .before .before .before .before .before .before .copy .ensures) in
+    let v = s .args .version in
+    let version = e .before .before .before .before .put-byte .ensures ∙ written-fits (v ∷ []) out (omega arith) in
+    let sized = lent-fits (v ∷ []) size out 1 refl (omega arith) version (e .encode-u16 .ensures) in
+    let copied = lent-fits (v ∷ size) program out 3 refl (omega arith) sized (c .before .before .before .before .before .before .copy .ensures) in
     let fits = length-append program (s .args .turn ∷ []) in
-    rw (front-bytes (length program))
-    (lent-fits (1 ∷ size ++ program) (s .args .turn ∷ []) out (3 + length program) (omega arith) (omega (arith, fits)) copied (c .before .before .put-byte2 .ensures))
+    rw (front-bytes v (length program) (omega (arith, s .good .1)))
+    (lent-fits (v ∷ size ++ program) (s .args .turn ∷ []) out (3 + length program) (omega arith) (omega (arith, fits)) copied (c .before .before .put-byte2 .ensures))
 
 pub write-head-spec : {M : Type 1} → statement M
 write-head-spec =

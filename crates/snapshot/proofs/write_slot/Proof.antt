@@ -17,19 +17,19 @@ write-task-requires c κs =
     let s = c .before .before .before .before in
     let words = now (s .args .table) in
     let shown = sym (c .before .before .is-shown .ensures) ∙ c .before .if1 .taken in
-    (shown-used (s .args .observer) (slotsIn words) (s .args .slot) shown, rw (shown-length words (s .args .slot) (s .args .observer) shown) at (s .pre .1))
+    (shown-used (s .args .observer) (slotsIn words) (s .args .slot) shown, rw (shown-length words (s .args .slot) (s .args .version) (s .args .observer) shown) at (s .pre .1))
 
 returns : tie.Need-returns
 returns c =
     let a = c .before .before .before .before .before .before .before .args in
     let shown = sym (c .before .before .before .before .before .is-shown .ensures) ∙ c .before .before .before .before .if1 .taken in
-    rw (slot-shown (a .observer) (slotAt (slotsIn (now (a .table))) (a .slot)) shown) (c .before .before .write-task .ensures)
+    rw (slot-shown (a .version) (a .observer) (slotAt (slotsIn (now (a .table))) (a .slot)) shown) (c .before .before .write-task .ensures)
 
 returns-2 : tie.Need-returns-2
 returns-2 c =
     let s = c .before .before .before .before .before .before .before in
     let hidden = sym (c .before .before .before .before .before .is-shown .ensures) ∙ c .before .before .before .before .if1 .left in
-    let e = slot-hidden (s .args .observer) (slotAt (slotsIn (now (s .args .table))) (s .args .slot)) hidden in
+    let e = slot-hidden (s .args .version) (s .args .observer) (slotAt (slotsIn (now (s .args .table))) (s .args .slot)) hidden in
     let room : 2 ≤ length (now (s .args .out)) = rw e at (s .pre .1) in
     rw e (refl, omega arith, c .before .before .encode-u16 .ensures ∙ written-fits (0 ∷ 0 ∷ []) (now (s .args .out)) room)
 

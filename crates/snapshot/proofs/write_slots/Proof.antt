@@ -12,10 +12,10 @@ use Rattle.snapshot.proofs.write_slots.Statement.{statement}
 use Rattle.snapshot.proofs.write_slots.Tie as tie
 
 abbrev Inv-loop : tie.InvT-loop
-Inv-loop out₀ table observer at₀ slot₀ out at slot = (slot ≤ 16) × (at ≤ 423 * slot) × ItemsWritten (shownSlot observer) (slotsIn table) out₀ out at slot
+Inv-loop out₀ table version observer at₀ slot₀ out at slot = (slot ≤ 16) × (at ≤ 424 * slot) × ItemsWritten (shownSlot version observer) (slotsIn table) out₀ out at slot
 
 abbrev μ-loop : tie.MeasureT-loop
-μ-loop out₀ table observer at₀ slot₀ out at slot = 16 - slot
+μ-loop out₀ table version observer at₀ slot₀ out at slot = 16 - slot
 
 write-slot-requires : tie.Need-write-slot-requires Inv-loop μ-loop
 write-slot-requires c κs =
@@ -23,7 +23,7 @@ write-slot-requires c κs =
     let h = c .before .before .loop in
     let ss = slotsIn (now (s .args .table)) in
     let more : h .slot < length ss = omega (arith, length-slots (now (s .args .table))) in
-    (omega arith, item-part (shownSlot (s .args .observer)) ss (now (s .args .out)) (s .pre) unused more (h .inv .2))
+    (omega arith, item-part (shownSlot (s .args .version) (s .args .observer)) ss (now (s .args .out)) (s .pre) unused more (h .inv .2))
 
 loop-again : tie.Need-loop-again Inv-loop μ-loop
 loop-again c =
@@ -32,13 +32,13 @@ loop-again c =
     let ss = slotsIn (now (s .args .table)) in
     let wrote = c .before .before .write-slot in
     let more : h .slot < length ss = omega (arith, length-slots (now (s .args .table))) in
-    let next = items-more (shownSlot (s .args .observer)) ss (now (s .args .out)) (s .pre) unused more (h .inv .2) (wrote .ensures .2) in
+    let next = items-more (shownSlot (s .args .version) (s .args .observer)) ss (now (s .args .out)) (s .pre) unused more (h .inv .2) (wrote .ensures .2) in
     (omega arith, omega arith, rw (← wrote .ensures .0) at next)
 
 returns : tie.Need-returns Inv-loop μ-loop
 returns c =
     let a = c .before .before .before .args in
-    items-all (shownSlot (a .observer)) (slotsIn (now (a .table))) (now (a .out)) (omega (arith, length-slots (now (a .table)))) (c .before .loop .inv .2)
+    items-all (shownSlot (a .version) (a .observer)) (slotsIn (now (a .table))) (now (a .out)) (omega (arith, length-slots (now (a .table)))) (c .before .loop .inv .2)
 
 pub write-slots-spec : {M : Type 1} → statement M
 write-slots-spec =

@@ -13,7 +13,8 @@ use Rattle.table.proofs.put_task.Tie as tie
 returns : tie.Need-returns
 returns c =
     let spare = c .before .before in
-    let label = spare .before .before in
+    let clearance = spare .before .before in
+    let label = clearance .before .before in
     let kind = label .before .before in
     let cleared = kind .before .before in
     let b = cleared .before .before in
@@ -21,13 +22,17 @@ returns c =
     slots-set
     (stored-then
     (stored-then
+    (stored-then
     (stored-then (stored-then (cleared .clear-fields .ensures) (kind .put .ensures)) (label .put2 .ensures))
-    (spare .put3 .ensures))
-    (c .put4 .ensures))
+    (clearance .put3 .ensures))
+    (spare .put4 .ensures))
+    (c .put5 .ensures))
     (b .pre)
-    (held (newTask (a .kind) (a .label) (a .spare) (a .pc)))
-    (ap held (task-stored (a .kind) (a .label) (a .spare) (a .pc) (window (now (a .t)) (a .s)) (omega arith) (omega arith) (omega arith) (omega arith)))
+    (held (newTask (a .kind) (a .label) (a .clearance) (a .spare) (a .pc)))
+    (ap held
+    (task-stored (a .kind) (a .label) (a .clearance) (a .spare) (a .pc) (window (now (a .t)) (a .s)) (omega arith) (omega arith) (omega arith) (omega arith) (omega arith)))
 
 pub put-task-spec : {M : Type 1} → statement M
 put-task-spec =
-    tie.close (tie.spec (λ c κs. omega arith) (λ c κs. omega arith) (λ c κs. omega arith) (λ c κs. omega arith) (λ c κs. omega arith) returns)
+    tie.close
+    (tie.spec (λ c κs. omega arith) (λ c κs. omega arith) (λ c κs. omega arith) (λ c κs. omega arith) (λ c κs. omega arith) (λ c κs. omega arith) returns)

@@ -10,7 +10,8 @@ use borrow.Author.Tests.{leb-true}
 use denote.Ref.{now}
 use Rattle.machine.specs.State.{Slot, State, slotAt, hasLiveTask}
 use Rattle.machine.proofs.Bounds.{idle-below, idle-above}
-use Rattle.table.specs.Table.{slotsIn, stateIn}
+use Rattle.table.specs.Table.{slotsIn}
+use Rattle.turn.specs.Answer.{running}
 use Rattle.turn.proofs.Steps.{kind-live, kind-idle, Ran, ran-none, ran-live, ran-past, ran-valid, ran-within}
 use Rattle.turn.proofs.round.Statement.{statement}
 use Rattle.turn.proofs.round.Tie as tie
@@ -19,7 +20,7 @@ use Rattle.turn.proofs.round.Tie as tie
 abbrev Inv-loop : tie.InvT-loop
 Inv-loop table₀ program first end bottom top stop from idle₀ slot₀ table idle slot =
     (first ≤ slot) × (from ≤ slot) × (from + idle ≤ slot)
-    × Ran (stateIn program first table₀) program (min slot end - first) (min slot end % 16) (slotsIn table) (slot - from - idle)
+    × Ran (running program first table₀) program (min slot end - first) (min slot end % 16) (slotsIn table) (slot - from - idle)
 
 abbrev μ-loop : tie.MeasureT-loop
 μ-loop table₀ program first end bottom top stop from idle₀ slot₀ table idle slot = stop - slot
@@ -33,7 +34,7 @@ none-met from idle slot h = omega arith
 
 -- what a round begins with
 abbrev start : tie.Start Inv-loop μ-loop → State
-start b = stateIn (now (b .args .program)) (b .args .first) (now (b .args .table))
+start b = running (now (b .args .program)) (b .args .first) (now (b .args .table))
 
 -- the first slots have no live task
 loop-holds : tie.Need-loop-holds Inv-loop μ-loop
@@ -45,7 +46,7 @@ loop-holds c =
     let to : a .first + (m - a .first) ≡ m = omega (arith, c .max .ensures, b .pre .1) in
     let none : (j : ℕ) → a .first ≤ j → j < a .first + (m - a .first) → hasLiveTask (slotAt (slotsIn (now (a .table))) j) ≡ false
     = λ j l h. idle-below (a .bottom) (a .top) (slotsIn (now (a .table))) (b .pre .3) j (omega (arith, c .max .ensures)) in
-    let past = ran-past (ran-none (start b)) (m - a .first) low (omega (arith, b .pre .2)) none in
+    let past = ran-past (ran-none (now (a .program)) (a .first) (slotsIn (now (a .table)))) (m - a .first) low (omega (arith, b .pre .2)) none in
     let first : 0 + (m - a .first) ≡ m - a .first = omega arith in
     let nothing : c .max .result - c .max .result - 0 ≡ 0 = omega arith in
     (omega (arith, c .max .ensures), omega arith, omega arith, rw nothing (rw first at (rw to at past)))

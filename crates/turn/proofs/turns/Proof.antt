@@ -7,14 +7,15 @@ use denote.Ref.{now}
 use Rattle.machine.specs.State.{State}
 use Rattle.machine.proofs.Machine.{busy-most}
 use Rattle.machine.proofs.Bounds.{valid-sixteen, valid-within}
-use Rattle.table.specs.Table.{slotsIn, stateIn}
+use Rattle.table.specs.Table.{slotsIn}
+use Rattle.turn.specs.Answer.{running}
 use Rattle.turn.proofs.Steps.{Ran, ran-none, ran-round, ran-valid, ran-within}
 use Rattle.turn.proofs.turns.Statement.{statement}
 use Rattle.turn.proofs.turns.Tie as tie
 
 abbrev Inv-loop : tie.InvT-loop
 Inv-loop table₀ program first n slot₀ busy₀ left₀ bottom top table slot busy left =
-    (left ≤ n) × Ran (stateIn program first table₀) program (n - left) slot (slotsIn table) busy
+    (left ≤ n) × Ran (running program first table₀) program (n - left) slot (slotsIn table) busy
 
 abbrev μ-loop : tie.MeasureT-loop
 μ-loop table₀ program first n slot₀ busy₀ left₀ bottom top table slot busy left = left
@@ -23,7 +24,7 @@ loop-holds : tie.Need-loop-holds Inv-loop μ-loop
 loop-holds c =
     let a = c .before .before .before .before .before .args in
     let none : a .n - a .n ≡ 0 = omega arith in
-    rw none (omega arith, ran-none (stateIn (now (a .program)) (a .first) (now (a .table))))
+    rw none (omega arith, ran-none (now (a .program)) (a .first) (slotsIn (now (a .table))))
 
 slot-low : (c : tie.At-loop Inv-loop μ-loop) → c .loop .slot ≤ 15
 slot-low c = leb-true (c .loop .slot) 15 (ran-valid (c .loop .inv .1) (c .before .before .before .before .before .before .pre) .turnSlot)
@@ -34,7 +35,7 @@ round-requires c κs =
     let b = c .before .before .before .before .before .before .before .before .before in
     let ran = h .inv .1 in
     let end = c .before .round-end .ensures in
-    let within = valid-within (stateIn (now (b .args .program)) (b .args .first) (now (b .args .table))) (b .pre) in
+    let within = valid-within (running (now (b .args .program)) (b .args .first) (now (b .args .table))) (b .pre) in
     (ran-valid ran (b .pre), omega (arith, end, slot-low (c .before .before .before)), omega (arith, end), rw (c .before .before .before .before .before .before .bottom .ensures, c .before .before .before .before .top .ensures) (ran-within ran _ _ within))
 
 add-busy : tie.Need-add-busy Inv-loop μ-loop
@@ -42,8 +43,8 @@ add-busy c =
     let h = c .before .before .before .before .loop in
     let a = c .before .before .before .before .before .before .before .before .before .before .args in
     let end = c .before .before .round-end in
-    let met = busy-most (a .n - h .left) (stateIn (now (a .program)) (a .first) (now (a .table))) in
-    let meets = busy-most (end .result - h .slot) (stateIn (now (a .program)) (h .slot) (h .table)) in
+    let met = busy-most (a .n - h .left) (running (now (a .program)) (a .first) (now (a .table))) in
+    let meets = busy-most (end .result - h .slot) (running (now (a .program)) (h .slot) (h .table)) in
     omega (arith, end .ensures, h .inv .1 .met-is, met, c .round .ensures .0, meets)
 
 loop-again : tie.Need-loop-again Inv-loop μ-loop
