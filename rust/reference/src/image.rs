@@ -4,12 +4,7 @@ use crate::instruction::Instruction;
 use crate::label::Label;
 use crate::slot::Slot;
 use crate::task::Task;
-
-/// The version byte at the front of an image.
-pub const VERSION: u8 = 1;
-
-/// The bytes of a record without messages.
-pub const TASK_LENGTH: usize = 37;
+use crate::version::Version;
 
 /// The bytes of a message.
 pub const MESSAGE_LENGTH: usize = 6;
@@ -20,6 +15,8 @@ pub type Tasks = [Option<Task>; Slot::COUNT];
 /// An accepted image taken apart.
 #[derive(Debug)]
 pub struct Image<'a> {
+    /// The version that it is written in again.
+    pub version: Version,
     /// The program as it stands in the caller's image.
     pub program_bytes: &'a [u8],
     pub program: Vec<Instruction>,

@@ -1,9 +1,10 @@
-//! A plain interpreter of document 01 and requests U1 to U4 of document 02, written separately from the monitor and
+//! A plain interpreter of document 01 and requests U1 to U5 of document 02, written separately from the monitor and
 //! compared with it.
 
 #![forbid(unsafe_code)]
 #![deny(missing_docs)]
 
+mod clearance;
 mod image;
 mod instruction;
 mod label;
@@ -19,6 +20,7 @@ mod step;
 mod task;
 #[cfg(test)]
 mod tests;
+mod version;
 mod write;
 
 use std::ops::Range;

@@ -2,7 +2,8 @@
 
 use std::ops::Range;
 
-use crate::image::{Image, Tasks, MESSAGE_LENGTH, TASK_LENGTH, VERSION};
+use crate::clearance::Clearance;
+use crate::image::{Image, Tasks, MESSAGE_LENGTH};
 use crate::instruction::Instruction;
 use crate::label::Label;
 use crate::mailbox::{Mailbox, Message};
@@ -10,6 +11,7 @@ use crate::refusal::Refusal;
 use crate::sender::Sender;
 use crate::slot::Slot;
 use crate::task::{Kind, Registers, Task};
+use crate::version::Version;
 
 /// The longest program in bytes.
 const PROGRAM_LIMIT: usize = 1024;
@@ -60,18 +62,16 @@ impl<'a> Reader<'a> {
 /// Reads a whole image, or tells the first refusal met.
 pub fn read(bytes: &[u8]) -> Result<(Image<'_>, Records), Refusal> {
     let mut reader = Reader::new(bytes);
-    if reader.byte()? != VERSION {
-        return Err(Refusal::Version);
-    }
+    let version = Version::new(reader.byte()?).ok_or(Refusal::Version)?;
     let program_bytes = read_program_bytes(&mut reader)?;
     let program = decode_program(program_bytes)?;
     let turn_slot = Slot::new(reader.byte()?.into()).ok_or(Refusal::TurnSlot)?;
     let mut tasks = Tasks::default();
     let mut records = Records::default();
     for ((slot, task), range) in Slot::all().zip(&mut tasks).zip(&mut records) {
-        let record = read_record(&mut reader)?;
+        let record = read_record(&mut reader, version)?;
         if !record.is_empty() {
-            *task = Some(read_task(record, slot, program.len())?);
+            *task = Some(read_task(record, version, slot, program.len())?);
             *range = reader.at - record.len()..reader.at;
         }
     }
@@ -79,7 +79,7 @@ pub fn read(bytes: &[u8]) -> Result<(Image<'_>, Records), Refusal> {
         return Err(Refusal::Tail);
     }
     check_estates(&tasks)?;
-    Ok((Image { program_bytes, program, turn_slot, tasks }, records))
+    Ok((Image { version, program_bytes, program, turn_slot, tasks }, records))
 }
 
 fn read_program_bytes<'a>(reader: &mut Reader<'a>) -> Result<&'a [u8], Refusal> {
@@ -104,9 +104,9 @@ pub fn decode_program(bytes: &[u8]) -> Result<Vec<Instruction>, Refusal> {
 }
 
 /// The bytes of the next slot's record; none for an unused slot.
-fn read_record<'a>(reader: &mut Reader<'a>) -> Result<&'a [u8], Refusal> {
+fn read_record<'a>(reader: &mut Reader<'a>, version: Version) -> Result<&'a [u8], Refusal> {
     let length = usize::from(reader.two_bytes()?);
-    let messages = length.checked_sub(TASK_LENGTH);
+    let messages = length.checked_sub(version.task_length());
     let whole = messages.is_some_and(|mail| mail % MESSAGE_LENGTH == 0 && mail / MESSAGE_LENGTH <= Mailbox::CAPACITY);
     if length != 0 && !whole {
         return Err(Refusal::RecordLength);
@@ -114,13 +114,14 @@ fn read_record<'a>(reader: &mut Reader<'a>) -> Result<&'a [u8], Refusal> {
     reader.part(length)
 }
 
-fn read_task(record: &[u8], slot: Slot, program_count: usize) -> Result<Task, Refusal> {
+fn read_task(record: &[u8], version: Version, slot: Slot, program_count: usize) -> Result<Task, Refusal> {
     let mut reader = Reader::new(record);
-    let kind = Kind::new(reader.byte()?).ok_or(Refusal::TaskField)?;
+    let kind = Kind::new(reader.byte()?, version).ok_or(Refusal::TaskField)?;
     let label = Label::new(reader.byte()?).ok_or(Refusal::TaskField)?;
+    let clearance = read_clearance(&mut reader, version)?;
     let spare = reader.byte()?;
     let place = reader.two_bytes()?;
-    if slot.plus(spare).is_none() || usize::from(place) > program_count {
+    if !clearance.admits(label) || slot.plus(spare).is_none() || usize::from(place) > program_count {
         return Err(Refusal::TaskField);
     }
     let mut registers = Registers::default();
@@ -128,7 +129,16 @@ fn read_task(record: &[u8], slot: Slot, program_count: usize) -> Result<Task, Re
         *register = reader.four_bytes()?;
     }
     let mailbox = read_mailbox(&mut reader)?;
-    Ok(Task { kind, label, spare, place, registers, mailbox })
+    Ok(Task { kind, label, clearance, spare, place, registers, mailbox })
+}
+
+/// The clearance of a task; one that admits all labels where the version has none.
+fn read_clearance(reader: &mut Reader<'_>, version: Version) -> Result<Clearance, Refusal> {
+    if version.has_clearance() {
+        Clearance::new(reader.byte()?).ok_or(Refusal::TaskField)
+    } else {
+        Ok(Clearance::ALL)
+    }
 }
 
 fn read_mailbox(reader: &mut Reader<'_>) -> Result<Mailbox, Refusal> {

@@ -9,7 +9,7 @@ pub enum Refusal {
     TurnLimit = 2,
     /// The image ends before the last byte of the field or part being read.
     Short = 3,
-    /// The first byte isn't 1.
+    /// The first byte is neither 1 nor 2.
     Version = 4,
     /// The program length is no multiple of 4 from 4 to 1,024; for a text, no line or more than 256.
     ProgramLength = 5,
@@ -17,9 +17,10 @@ pub enum Refusal {
     Instruction = 6,
     /// The turn slot is above 15.
     TurnSlot = 7,
-    /// A record length is neither 0 nor 37 + 6 × k, k at most 64.
+    /// A record length is neither 0 nor 37 + 6 × k, in version 2 38 + 6 × k, k at most 64.
     RecordLength = 8,
-    /// Kind, label or place is out of range, or slot + spare is above 15.
+    /// Kind, label, clearance or place is out of range, the label is no subset of the clearance, or slot + spare is
+    /// above 15.
     TaskField = 9,
     /// A message's label is above 15 or its sender above 16, or five or more are of one label.
     Mail = 10,

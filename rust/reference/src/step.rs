@@ -81,7 +81,7 @@ impl Task {
                     return Effect::Jump(target.into());
                 }
             }
-            Instruction::Raise { label } => self.label = self.label.join(label),
+            Instruction::Raise { label } => return self.raise(label),
             Instruction::Send { to, label, value } => return self.send(to, label, value, own),
             Instruction::Take { value, sender } => return self.take(value, sender, Effect::Wait),
             Instruction::Poll { value, sender, otherwise } => {
@@ -94,6 +94,16 @@ impl Task {
             }
             Instruction::Count { to } => registers.set(to, self.mailbox.search(self.label).receivable),
         }
+        Effect::Next
+    }
+
+    /// Joins the own label with this one, if the clearance admits what comes of it.
+    fn raise(&mut self, label: Label) -> Effect {
+        let raised = self.label.join(label);
+        if !self.clearance.admits(raised) {
+            return Effect::Stop(Kind::StoppedByClearance);
+        }
+        self.label = raised;
         Effect::Next
     }
 
@@ -138,6 +148,7 @@ impl Task {
         Task {
             kind: Kind::Live,
             label: self.label,
+            clearance: self.clearance,
             spare: size - 1,
             place: start.into(),
             registers,

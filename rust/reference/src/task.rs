@@ -1,8 +1,10 @@
 //! A task as it stands in a used slot.
 
+use crate::clearance::Clearance;
 use crate::instruction::Register;
 use crate::label::Label;
 use crate::mailbox::Mailbox;
+use crate::version::Version;
 
 /// Whether a task runs, and if not, why it stopped; the value is the byte in the image.
 #[derive(Debug, Clone, Copy, PartialEq, Eq)]
@@ -12,13 +14,17 @@ pub enum Kind {
     RanOff = 3,
     StoppedByLabel = 4,
     WantOfSpare = 5,
+    StoppedByClearance = 6,
 }
 
 impl Kind {
-    /// The kind that this byte stands for.
-    pub fn new(byte: u8) -> Option<Kind> {
+    /// The kind that this byte stands for in an image of this version.
+    pub fn new(byte: u8, version: Version) -> Option<Kind> {
         use Kind::*;
-        [Live, Done, RanOff, StoppedByLabel, WantOfSpare].into_iter().find(|&kind| kind as u8 == byte)
+        [Live, Done, RanOff, StoppedByLabel, WantOfSpare, StoppedByClearance]
+            .into_iter()
+            .find(|&kind| kind as u8 == byte)
+            .filter(|&kind| kind != StoppedByClearance || version.has_clearance())
     }
 }
 
@@ -40,7 +46,10 @@ impl Registers {
 #[derive(Debug)]
 pub struct Task {
     pub kind: Kind,
+    /// A subset of the clearance.
     pub label: Label,
+    /// The ceiling of the label, which no turn changes; `Clearance::ALL` in an image of version 1.
+    pub clearance: Clearance,
     /// How many slots behind its own the task has the right to.
     pub spare: u8,
     /// The index of the next instruction; at most the number of instructions.

@@ -1,11 +1,11 @@
 //! The count of one label's messages in a mailbox: where it stops, what it tells, and what `lookprobe` prints of it.
 
-use super::{after, image, mail, END, ROOM};
+use super::{assert_after, bytes_in_versions, image, kinds, mail, END, ROOM};
 use crate::label::Label;
 use crate::mailbox::{self, Look, Mailbox};
 use crate::sender::Sender;
 use crate::{looks, post};
-use layout::{Message, Task, HOST, SLOTS};
+use layout::{Image, Message, Task, HOST, SLOTS, VERSIONS};
 
 pub(super) const LABELS: u8 = 16;
 const PER_LABEL: usize = 4;
@@ -190,27 +190,35 @@ fn printed(mail: &[Message]) -> Vec<u8> {
 
 #[test]
 fn lookprobe_prints_each_label_of_each_slot_whatever_the_tasks_kind() {
-    for (row, mails) in made_up_mail().chunks(SLOTS).enumerate() {
-        let mut image = image(&[END], &[]);
-        let mut expected = vec![0; SLOTS * 32];
-        for (slot, mail) in mails.iter().enumerate().filter(|(slot, _)| (slot + row) % 7 != 0) {
-            let kind = ((slot + row) % 5 + 1) as u8;
-            image.slots[slot] = Some(Task { kind, mail: mail.clone(), ..Task::default() });
-            expected[slot * 32..][..32].copy_from_slice(&printed(mail));
+    for version in VERSIONS {
+        let kinds: Vec<u8> = kinds(version).collect();
+        for (row, mails) in made_up_mail().chunks(SLOTS).enumerate() {
+            let mut image = Image { version, ..image(&[END], &[]) };
+            let mut expected = vec![0; SLOTS * 32];
+            for (slot, mail) in mails.iter().enumerate().filter(|(slot, _)| (slot + row) % 7 != 0) {
+                let kind = kinds[(slot + row) % kinds.len()];
+                image.slots[slot] = Some(Task { kind, mail: mail.clone(), ..Task::default() });
+                expected[slot * 32..][..32].copy_from_slice(&printed(mail));
+            }
+            assert_eq!(looks(&image.bytes()), expected);
         }
-        assert_eq!(looks(&image.bytes()), expected);
     }
+}
+
+/// In each version, this is what `lookprobe` prints of the image.
+fn assert_looks(image: &Image, expected: &[u8]) {
+    bytes_in_versions(image).iter().for_each(|bytes| assert_eq!(looks(bytes), expected));
 }
 
 #[test]
 fn lookprobe_prints_zeros_for_unused_slots_and_nothing_for_a_refused_image() {
     let mut image = image(&[END], &[]);
-    assert_eq!(looks(&image.bytes()), [0; 512]);
+    assert_looks(&image, &[0; 512]);
     image.slots[2] = Some(Task { kind: 2, ..Task::default() });
     let empty = [vec![0; 64], [1, 0].repeat(16), vec![0; 416]].concat();
-    assert_eq!(looks(&image.bytes()), empty);
+    assert_looks(&image, &empty);
     image.task(2).mail = mail([(0, 1, 0); PER_LABEL + 1]);
-    assert!(looks(&image.bytes()).is_empty());
+    assert_looks(&image, &[]);
     assert!(looks(&[]).is_empty());
 }
 
@@ -223,15 +231,16 @@ fn sends_and_posts_to_a_live_task_are_delivered_where_lookprobe_tells_room() {
         let printed = looks(&image.bytes());
         for label in 0..LABELS {
             image.program[0][2] = label;
-            let bytes = image.bytes();
             let room = printed[9 * 32 + 2 * usize::from(label)] == 1;
-            assert_eq!(post(&bytes, 9, label.into(), 700, &mut [0; ROOM]).delivered, room);
+            for bytes in bytes_in_versions(&image) {
+                assert_eq!(post(&bytes, 9, label.into(), 700, &mut [0; ROOM]).delivered, room);
+            }
             let mut sent = image.clone();
             (sent.turn_slot, sent.task(0).place) = (1, 1);
             if room {
                 sent.task(9).mail.extend(mail([(label, 0, 9)]));
             }
-            assert_eq!(after(&image, 1), (sent.bytes(), 1));
+            assert_after(&image, 1, &sent, 1);
         }
     }
 }

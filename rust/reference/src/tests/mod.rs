@@ -2,15 +2,19 @@
 //! and the monitor alike, by the crate `differential`.
 
 mod calls;
+mod ceilings;
 mod listings;
 mod looks;
 mod posts;
 mod refusals;
 mod searches;
 mod steps;
+mod versions;
+
+use std::ops::RangeInclusive;
 
 use crate::turns;
-use layout::{Image, Instruction, Message, Task};
+use layout::{Image, Instruction, Message, Task, VERSIONS};
 
 /// More room than the longest answer needs.
 const ROOM: usize = 8192;
@@ -63,6 +67,31 @@ fn image(program: &[Instruction], used: &[usize]) -> Image {
     image
 }
 
+/// The image in each version.
+fn in_versions(image: &Image) -> [Image; VERSIONS.len()] {
+    VERSIONS.map(|version| Image { version, ..image.clone() })
+}
+
+/// The bytes of the image in each version.
+fn bytes_in_versions(image: &Image) -> [Vec<u8>; VERSIONS.len()] {
+    in_versions(image).map(|image| image.bytes())
+}
+
+/// The kinds of tasks in an image of this version.
+fn kinds(version: u8) -> RangeInclusive<u8> {
+    1..=if version == 1 { 5 } else { 6 }
+}
+
+/// Every pair of a label and a clearance.
+fn labels_and_clearances() -> impl Iterator<Item = (u8, u8)> {
+    (0..16).flat_map(|label| (0..16).map(move |clearance| (label, clearance)))
+}
+
+/// Whether each bit of the label is in the clearance, too.
+fn is_subset(label: u8, clearance: u8) -> bool {
+    (0..4).all(|bit| label >> bit & 1 <= clearance >> bit & 1)
+}
+
 /// Messages: label, sender and value of each.
 fn mail<const N: usize>(messages: [(u8, u8, u32); N]) -> Vec<Message> {
     messages.map(|(label, sender, value)| Message { label, sender, value }).to_vec()
@@ -70,10 +99,22 @@ fn mail<const N: usize>(messages: [(u8, u8, u32); N]) -> Vec<Message> {
 
 /// The image after some turns, and the busy count.
 fn after(image: &Image, count: u64) -> (Vec<u8>, u64) {
+    turned(&image.bytes(), count)
+}
+
+/// The bytes of an image after some turns, and the busy count.
+fn turned(bytes: &[u8], count: u64) -> (Vec<u8>, u64) {
     let mut out = vec![UNTOUCHED; ROOM];
-    let answer = turns(&image.bytes(), count, &mut out);
+    let answer = turns(bytes, count, &mut out);
     assert_eq!(answer.number, 0);
     (written(answer.length, &out), answer.busy)
+}
+
+/// In each version, so many turns make the second image of the first, with this busy count.
+fn assert_after(before: &Image, count: u64, expected: &Image, busy: u64) {
+    for (before, expected) in in_versions(before).iter().zip(bytes_in_versions(expected)) {
+        assert_eq!(after(before, count), (expected, busy));
+    }
 }
 
 /// The bytes of an answer of this length; nothing may have been written behind them.

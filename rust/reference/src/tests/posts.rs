@@ -1,6 +1,6 @@
 //! The host's posts: what is delivered, what is dropped, and what a task and an observer see of it.
 
-use super::{after, image, mail, written, END, ROOM, UNTOUCHED};
+use super::{assert_after, bytes_in_versions, image, mail, written, END, ROOM, UNTOUCHED};
 use crate::{post, view, PostAnswer};
 use layout::{Image, Instruction, Task, SLOTS};
 
@@ -26,25 +26,29 @@ fn town() -> Image {
 }
 
 /// The image after an accepted post, and whether it was delivered.
-fn posted(image: &[u8], slot: usize, label: u8, value: u32) -> (Vec<u8>, bool) {
+pub(super) fn posted(image: &[u8], slot: usize, label: u8, value: u32) -> (Vec<u8>, bool) {
     let mut out = [UNTOUCHED; ROOM];
     let answer = post(image, slot as u32, label.into(), value, &mut out);
     assert_eq!(answer.number, 0);
     (written(answer.length, &out), answer.delivered)
 }
 
-/// The image after a post that is delivered: the message joins the end of the mailbox, and all else stays.
+/// The image after a post that is delivered: in each version the message joins the end of the mailbox, and all else
+/// stays.
 fn delivered(image: &Image, slot: usize, label: u8, value: u32) -> Image {
     let mut expected = image.clone();
     expected.task(slot).mail.extend(mail([(label, 16, value)]));
-    assert_eq!(posted(&image.bytes(), slot, label, value), (expected.bytes(), true));
+    for (bytes, expected) in bytes_in_versions(image).iter().zip(bytes_in_versions(&expected)) {
+        assert_eq!(posted(bytes, slot, label, value), (expected, true));
+    }
     expected
 }
 
-/// Posts of this label to this slot are dropped: the image stays.
+/// Posts of this label to this slot are dropped: the image stays, in each version.
 fn assert_dropped(image: &Image, slot: usize, label: u8) {
-    let bytes = image.bytes();
-    assert_eq!(posted(&bytes, slot, label, 700), (bytes, false));
+    for bytes in bytes_in_versions(image) {
+        assert_eq!(posted(&bytes, slot, label, 700), (bytes, false));
+    }
 }
 
 #[test]
@@ -122,7 +126,7 @@ fn assert_step_after_post(instruction: Instruction, label: u8, change: impl FnOn
     let before = expected.clone();
     expected.turn_slot = 3;
     change(expected.task(2));
-    assert_eq!(after(&before, 1), (expected.bytes(), 1));
+    assert_after(&before, 1, &expected, 1);
 }
 
 #[test]
@@ -149,22 +153,23 @@ fn a_post_that_does_not_flow_to_the_tasks_label_waits_there() {
 
 #[test]
 fn the_output_may_be_as_long_as_the_answer_but_no_shorter() {
-    let bytes = town().bytes();
-    for (slot, joined) in [(7, true), (6, false), (1, false)] {
-        let (after, _) = posted(&bytes, slot, 0, 700);
-        assert_eq!(after.len(), bytes.len() + if joined { 6 } else { 0 });
-        let mut out = vec![UNTOUCHED; after.len()];
-        let short = post(&bytes, slot as u32, 0, 700, &mut out[..after.len() - 1]);
-        assert_eq!(short, PostAnswer { number: 13, length: 0, delivered: false });
-        assert!(out.iter().all(|&byte| byte == UNTOUCHED));
-        let exact = post(&bytes, slot as u32, 0, 700, &mut out);
-        assert_eq!(exact, PostAnswer { number: 0, length: after.len(), delivered: joined });
-        assert_eq!(out, after);
+    for bytes in bytes_in_versions(&town()) {
+        for (slot, joined) in [(7, true), (6, false), (1, false)] {
+            let (after, _) = posted(&bytes, slot, 0, 700);
+            assert_eq!(after.len(), bytes.len() + if joined { 6 } else { 0 });
+            let mut out = vec![UNTOUCHED; after.len()];
+            let short = post(&bytes, slot as u32, 0, 700, &mut out[..after.len() - 1]);
+            assert_eq!(short, PostAnswer { number: 13, length: 0, delivered: false });
+            assert!(out.iter().all(|&byte| byte == UNTOUCHED));
+            let exact = post(&bytes, slot as u32, 0, 700, &mut out);
+            assert_eq!(exact, PostAnswer { number: 0, length: after.len(), delivered: joined });
+            assert_eq!(out, after);
+        }
     }
 }
 
 /// The observer's view of an accepted image.
-fn seen(image: &[u8], observer: u8) -> Vec<u8> {
+pub(super) fn seen(image: &[u8], observer: u8) -> Vec<u8> {
     let mut out = [UNTOUCHED; ROOM];
     let answer = view(image, observer.into(), &mut out);
     assert_eq!(answer.number, 0);
@@ -177,11 +182,15 @@ fn seen(image: &[u8], observer: u8) -> Vec<u8> {
 fn an_observer_sees_of_a_post_what_the_view_tells() {
     let mut town = town();
     town.task(7).mail.extend(mail([(5, 2, 40); 3]));
-    let bytes = town.bytes();
+    bytes_in_versions(&town).iter().for_each(|bytes| assert_posts_seen(bytes));
+}
+
+/// Whatever the observer, the slot and the label: the view after the post is what the view before it tells.
+fn assert_posts_seen(bytes: &[u8]) {
     for (observer, label) in (0..16).flat_map(|observer| (0..16).map(move |label| (observer, label))) {
-        let view = seen(&bytes, observer);
+        let view = seen(bytes, observer);
         for slot in 0..SLOTS {
-            let (after, _) = posted(&bytes, slot, label, 700);
+            let (after, _) = posted(bytes, slot, label, 700);
             let flows = label | observer == observer;
             let expected = if flows { posted(&view, slot, label, 700).0 } else { view.clone() };
             assert_eq!(seen(&after, observer), expected);

@@ -2,7 +2,7 @@
 
 use super::calls::seen;
 use super::looks::{label, made_up_mail, mailbox, CAPACITY, LABELS};
-use super::{after, image, mail, END};
+use super::{assert_after, image, mail, END};
 use crate::mailbox::Search;
 use layout::{Image, Message, Task};
 
@@ -71,8 +71,7 @@ fn counted_tasks() -> Image {
 #[test]
 fn what_an_observer_may_not_see_changes_no_count_that_it_sees() {
     for observer in 0..LABELS {
-        let (counted, busy) = after(&seen(counting_tasks(), observer), 16);
-        assert_eq!(counted, seen(counted_tasks(), observer).bytes());
-        assert_eq!(busy, 1 << observer.count_ones());
+        let (counting, counted) = (seen(counting_tasks(), observer), seen(counted_tasks(), observer));
+        assert_after(&counting, 16, &counted, 1 << observer.count_ones());
     }
 }

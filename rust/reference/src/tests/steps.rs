@@ -1,7 +1,7 @@
 //! The step rules, instruction by instruction.
 
-use super::{after, image, mail, END};
-use layout::{Image, Instruction, Message, Task};
+use super::{after, assert_after, image, kinds, mail, END};
+use layout::{Image, Instruction, Message, Task, VERSIONS};
 
 /// A live task in slot 2 of label 5, at place 1 of a program of three instructions, about to carry out this one; the
 /// registers hold 100 to 107.
@@ -14,12 +14,12 @@ fn about_to(instruction: Instruction) -> Image {
     image
 }
 
-/// One turn makes this change to the task in slot 2 and no other.
+/// In each version, one turn makes this change to the task in slot 2 and no other.
 fn assert_step(image: &Image, change: impl FnOnce(&mut Task)) {
     let mut expected = image.clone();
     expected.turn_slot = 3;
     change(expected.task(2));
-    assert_eq!(after(image, 1), (expected.bytes(), 1));
+    assert_after(image, 1, &expected, 1);
 }
 
 /// One turn goes on to place 2 and puts these figures into registers.
@@ -76,10 +76,15 @@ fn a_live_task_behind_the_program_runs_off() {
     assert_step(&image, |task| task.kind = 3);
 }
 
+/// Each version with each kind of a stopped task in it.
+fn stopped_kinds() -> impl Iterator<Item = (u8, u8)> {
+    VERSIONS.into_iter().flat_map(|version| kinds(version).skip(1).map(move |kind| (version, kind)))
+}
+
 #[test]
 fn stopped_tasks_and_unused_slots_are_not_busy() {
-    for kind in 2..=5 {
-        let mut image = about_to(END);
+    for (version, kind) in stopped_kinds() {
+        let mut image = Image { version, ..about_to(END) };
         image.task(2).kind = kind;
         let mut expected = image.clone();
         expected.turn_slot = 4;
@@ -93,7 +98,7 @@ fn slot_15_is_followed_by_slot_0() {
     image.turn_slot = 15;
     let mut expected = image.clone();
     (expected.turn_slot, expected.task(0).kind) = (1, 2);
-    assert_eq!(after(&image, 2), (expected.bytes(), 1));
+    assert_after(&image, 2, &expected, 1);
 }
 
 /// Mail of which only the third and the fourth message are receivable with label 5.
@@ -164,7 +169,7 @@ fn assert_count_after(instruction: Instruction, number: u32, change: impl FnOnce
     let task = expected.task(2);
     (task.place, task.registers[3], task.registers[4]) = (3, 2, number);
     change(task);
-    assert_eq!(after(&image, 33), (expected.bytes(), 3));
+    assert_after(&image, 33, &expected, 3);
 }
 
 #[test]
@@ -206,10 +211,12 @@ fn sends_to_no_live_task_are_dropped() {
     for to in [3, 15, 16, 18, 256 + 2, 65536 + 2, u32::MAX] {
         assert_step(&about_to_send(to), |task| task.place = 2);
     }
-    for kind in 2..=5 {
-        let mut image = about_to_send(3);
+    for (version, kind) in stopped_kinds() {
+        let mut image = Image { version, ..about_to_send(3) };
         image.slots[3] = Some(Task { kind, ..Task::default() });
-        assert_step(&image, |task| task.place = 2);
+        let mut expected = image.clone();
+        (expected.turn_slot, expected.task(2).place) = (3, 2);
+        assert_eq!(after(&image, 1), (expected.bytes(), 1));
     }
 }
 
@@ -244,5 +251,5 @@ fn a_child_runs_in_the_same_round() {
     (parent.spare, parent.place, parent.registers[1]) = (0, 2, 3);
     let registers = [2, 0, 0, 0, 0, 0, 0, 0];
     expected.slots[3] = Some(Task { kind: 2, label: 5, place: 2, registers, ..Task::default() });
-    assert_eq!(after(&image, 2), (expected.bytes(), 2));
+    assert_after(&image, 2, &expected, 2);
 }
