@@ -4,7 +4,13 @@
  * Each call takes an image, the bytes of all tasks; but `rithennaw_assemble` takes text, and `rithennaw_disassemble` a
  * program. The bytes may be any: a call refuses what it cannot take, so the caller checks nothing beforehand. The layout of
  * an image, the meaning of its tasks and the text of a program are the scope document's (01), with its change requests U1,
- * posts, U2, programs typed by people, and U4, how much is waiting: the instruction count, from version 0.4 on.
+ * posts, U2, programs typed by people, U4, how much is waiting: the instruction count, from version 0.4 on, and U5, a
+ * ceiling for each task: images of version 2, from 0.5 on.
+ *
+ * Image versions. The first byte of an image is its version, 1 or 2. In version 2 a task has one byte more, behind its label:
+ * its clearance, a label that contains its own. A raise that would leave the clearance stops the task with kind 6, which
+ * version 1 does not have; a child has its parent's clearance. Version 1 is read as clearance 15. Each call takes both, and
+ * what it writes has the version that it read.
  *
  * Numbers. All calls but `rithennaw_record` return 0 (RITHENNAW_ACCEPTED), or the number of the first rule that is broken.
  * The order for an image: 1, 2, or 14 and then 15, by the call's own arguments; then the image from front to back; then 11,
@@ -45,7 +51,7 @@ extern "C" {
 
 /* The version of the library: its three numbers, and text with points between them. An image's version is its first byte. */
 #define RITHENNAW_VERSION_MAJOR 0
-#define RITHENNAW_VERSION_MINOR 4
+#define RITHENNAW_VERSION_MINOR 5
 #define RITHENNAW_VERSION_PATCH 0
 #define RITHENNAW_VERSION_STRING \
     RITHENNAW_TEXT(RITHENNAW_VERSION_MAJOR) "." RITHENNAW_TEXT(RITHENNAW_VERSION_MINOR) "." \
@@ -57,7 +63,7 @@ extern "C" {
 
 /* The shortest and the longest image. An output of RITHENNAW_IMAGE_MAX bytes is long enough for every call. */
 #define RITHENNAW_IMAGE_MIN 40
-#define RITHENNAW_IMAGE_MAX 7796
+#define RITHENNAW_IMAGE_MAX 7812
 
 /* An output of RITHENNAW_SHEET_MAX bytes is long enough for every observer sheet. */
 #define RITHENNAW_SHEET_MAX 318
@@ -91,7 +97,7 @@ enum rithennaw_number {
     RITHENNAW_REFUSED_TURN_LIMIT = 2,
     /* The image ends before the last byte of the field or part being read. */
     RITHENNAW_REFUSED_SHORT = 3,
-    /* The image's first byte, its version, isn't 1. */
+    /* The image's first byte, its version, is neither 1 nor 2. */
     RITHENNAW_REFUSED_VERSION = 4,
     /* The program's length is no multiple of 4 from 4 to 1,024: 1 to 256 instructions. */
     RITHENNAW_REFUSED_PROGRAM_LENGTH = 5,
@@ -99,9 +105,9 @@ enum rithennaw_number {
     RITHENNAW_REFUSED_INSTRUCTION = 6,
     /* The turn slot is above 15. */
     RITHENNAW_REFUSED_TURN_SLOT = 7,
-    /* A record's length is neither 0 nor 37 + 6 * k, k at most 64. */
+    /* A record's length is neither 0 nor 37 + 6 * k, in version 2 38 + 6 * k, k at most 64. */
     RITHENNAW_REFUSED_RECORD_LENGTH = 8,
-    /* A task's kind, label or place is out of range, or slot + spare is above 15. */
+    /* A task's kind, label, clearance or place is out of range, its label isn't within its clearance, or slot + spare is above 15. */
     RITHENNAW_REFUSED_TASK_FIELD = 9,
     /* A message's label is above 15 or its sender above 16, or five or more are of one label. */
     RITHENNAW_REFUSED_MAIL = 10,
@@ -127,12 +133,12 @@ static inline const char *rithennaw_refusal_text(uint8_t number)
     case RITHENNAW_REFUSED_OBSERVER: return "The label asked for is above 15.";
     case RITHENNAW_REFUSED_TURN_LIMIT: return "More than 1,000,000 turns were asked for.";
     case RITHENNAW_REFUSED_SHORT: return "The image ends before the last byte of the field or part being read.";
-    case RITHENNAW_REFUSED_VERSION: return "The image's first byte, its version, isn't 1.";
+    case RITHENNAW_REFUSED_VERSION: return "The image's first byte, its version, is neither 1 nor 2.";
     case RITHENNAW_REFUSED_PROGRAM_LENGTH: return "The program's length is no multiple of 4 from 4 to 1,024: 1 to 256 instructions.";
     case RITHENNAW_REFUSED_INSTRUCTION: return "An instruction isn't in the table, or has an operand outside it.";
     case RITHENNAW_REFUSED_TURN_SLOT: return "The turn slot is above 15.";
-    case RITHENNAW_REFUSED_RECORD_LENGTH: return "A record's length is neither 0 nor 37 + 6 * k, k at most 64.";
-    case RITHENNAW_REFUSED_TASK_FIELD: return "A task's kind, label or place is out of range, or slot + spare is above 15.";
+    case RITHENNAW_REFUSED_RECORD_LENGTH: return "A record's length is neither 0 nor 37 + 6 * k, in version 2 38 + 6 * k, k at most 64.";
+    case RITHENNAW_REFUSED_TASK_FIELD: return "A task's kind, label, clearance or place is out of range, its label isn't within its clearance, or slot + spare is above 15.";
     case RITHENNAW_REFUSED_MAIL: return "A message's label is above 15 or its sender above 16, or five or more are of one label.";
     case RITHENNAW_REFUSED_TAIL: return "There are bytes after slot 15.";
     case RITHENNAW_REFUSED_ESTATE: return "A used slot lies in another task's spare.";

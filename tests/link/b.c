@@ -1,8 +1,8 @@
 /*
  * The archive linked into a C program: the scope document's image B, its examples P2, P3 and P5, posts to B and the sheet of
- * P2 through the header, every byte compared; a record's part; programs and their texts, both ways; each refusal of an
- * image, a text and a program, and the refusals 1, 2, 3, 13, 14 and 15 of calls that write, which leave the output as it was;
- * the sentences of the numbers and the version.
+ * P2 through the header, every byte compared; B in version 2, with clearances; a record's part; programs and their texts,
+ * both ways; each refusal of an image, a text and a program, and the refusals 1, 2, 3, 13, 14 and 15 of calls that write,
+ * which leave the output as it was; the sentences of the numbers and the version.
  */
 #include <stdint.h>
 #include <stdio.h>
@@ -73,7 +73,10 @@ enum {
     SLOT_0_AT = TURN_SLOT_AT + 1,
     SLOT_5_AT = SLOT_0_AT + 2 + 37 + 4 * 2,
     B_LENGTH = SLOT_5_AT + 2 + 37 + 10 * 2,
-    /* in a slot, behind its 2-byte length: kind, label, spare, place, registers */
+    /* in a slot, behind its 2-byte length: kind, label, in version 2 a clearance, spare, place, registers */
+    KIND_AT = 2,
+    LABEL_AT = 2 + 1,
+    CLEARANCE_AT = 2 + 2,
     SPARE_AT = 2 + 2,
     PLACE_AT = 2 + 3,
     REGISTERS_AT = 2 + 5
@@ -134,6 +137,24 @@ static void put_mail(struct image *b, size_t slot_at, unsigned label, unsigned s
     set_number(at + 2, 4, value);
     *length_at = (uint8_t)(*length_at + 6);
     b->length += 6;
+}
+
+/* A task's record in version 2: its clearance behind the label. It has less than 256 bytes before and after. */
+static void put_clearance(struct image *b, size_t slot_at, unsigned clearance)
+{
+    uint8_t *at = b->bytes + slot_at + CLEARANCE_AT;
+    memmove(at + 1, at, (size_t)(b->bytes + b->length - at));
+    *at = (uint8_t)clearance;
+    b->bytes[slot_at + 1]++;
+    b->length++;
+}
+
+/* An image with B's slots, from version 1 to 2: slot 0 gets the clearance, slot 5 has 15. */
+static void clear(struct image *b, unsigned clearance)
+{
+    b->bytes[0] = 2;
+    put_clearance(b, SLOT_5_AT, 15);
+    put_clearance(b, SLOT_0_AT, clearance);
 }
 
 /* ---- calls: the output is filled with a pattern first, and all of it is compared */
@@ -284,8 +305,8 @@ static void make_images(void)
     /* After 1,000,000 turns, 62,500 for each slot, both tasks have ended; 4 turns were busy. */
     ended = p3;
     ended.bytes[TURN_SLOT_AT] = 0;
-    ended.bytes[SLOT_0_AT + 2] = 2;
-    ended.bytes[SLOT_5_AT + 2] = 2;
+    ended.bytes[SLOT_0_AT + KIND_AT] = 2;
+    ended.bytes[SLOT_5_AT + KIND_AT] = 2;
 
     /* P5: B with the send's label 2. After 6 turns slot 5 is at place 2 with one message; the view for 0 has none. */
     p5 = b;
@@ -328,6 +349,35 @@ static void make_posted(void)
     }
     full_posted = full;
     put_mail(&full_posted, SLOT_5_AT, 3, RITHENNAW_HOST, FIGURE);
+}
+
+/* ---- images of version 2: B and P3 with clearances 15; B whose first instruction raises by 3, under clearances 7 and 5 */
+
+static struct image b_2, p3_2, raise, raised, outside, stopped_6;
+
+static void make_cleared(void)
+{
+    b_2 = b;
+    clear(&b_2, 15);
+    p3_2 = p3;
+    clear(&p3_2, 15);
+
+    /* Within clearance 7 the label becomes 3, and slot 0 is at place 1. */
+    raise = b;
+    set_number(raise.bytes + 3, 4, 0x07030000);
+    raised = raise;
+    raised.bytes[TURN_SLOT_AT] = 1;
+    raised.bytes[SLOT_0_AT + LABEL_AT] = 3;
+    raised.bytes[SLOT_0_AT + PLACE_AT + 1] = 1;
+    clear(&raised, 7);
+
+    /* Label 3 isn't within clearance 5: the kind is 6, and all else as it was. */
+    outside = raise;
+    clear(&outside, 5);
+    stopped_6 = outside;
+    stopped_6.bytes[TURN_SLOT_AT] = 1;
+    stopped_6.bytes[SLOT_0_AT + KIND_AT] = 6;
+    clear(&raise, 7);
 }
 
 /* ---- programs and their texts: of B, of every word in the table, the longest, and one of a line more */
@@ -375,12 +425,37 @@ static void make_programs(void)
 
 /* ---- each function: accepted calls, then the refusals in the order of their numbers */
 
-/* The check of B with the byte at `at` changed. */
-static void checks_changed(const char *call, size_t at, unsigned byte, unsigned number)
+/* The check of an image with the byte at `at` changed. */
+static void checks_with(const char *call, const struct image *image, size_t at, unsigned byte, unsigned number)
 {
-    struct image changed = b;
+    struct image changed = *image;
     changed.bytes[at] = (uint8_t)byte;
     checks_as(call, &changed, number);
+}
+
+/* Of B. */
+static void checks_changed(const char *call, size_t at, unsigned byte, unsigned number)
+{
+    checks_with(call, &b, at, byte, number);
+}
+
+/* Of B in version 2. */
+static void checks_cleared(const char *call, size_t at, unsigned byte, unsigned number)
+{
+    checks_with(call, &b_2, at, byte, number);
+}
+
+static void try_check_2(void)
+{
+    checks_as("check of B in version 2", &b_2, RITHENNAW_ACCEPTED);
+    checks_cleared("check of B in version 2 as version 1", 0, 1, RITHENNAW_REFUSED_RECORD_LENGTH);
+    checks_cleared("check of a record of 37 bytes in version 2", SLOT_0_AT + 1, 37, RITHENNAW_REFUSED_RECORD_LENGTH);
+    checks_cleared("check of kind 6 in version 2", SLOT_0_AT + KIND_AT, 6, RITHENNAW_ACCEPTED);
+    checks_cleared("check of kind 7 in version 2", SLOT_0_AT + KIND_AT, 7, RITHENNAW_REFUSED_TASK_FIELD);
+    checks_cleared("check of clearance 16", SLOT_0_AT + CLEARANCE_AT, 16, RITHENNAW_REFUSED_TASK_FIELD);
+    checks_cleared("check of label 0 with clearance 0", SLOT_0_AT + CLEARANCE_AT, 0, RITHENNAW_ACCEPTED);
+    checks_with("check of label 4 with clearance 5", &outside, SLOT_0_AT + LABEL_AT, 4, RITHENNAW_ACCEPTED);
+    checks_with("check of label 3 with clearance 5", &outside, SLOT_0_AT + LABEL_AT, 3, RITHENNAW_REFUSED_TASK_FIELD);
 }
 
 static void try_check(void)
@@ -391,12 +466,14 @@ static void try_check(void)
     checks_as("check of P2", &p2, RITHENNAW_ACCEPTED);
     checks_as("check of B cut by a byte", &cut, RITHENNAW_REFUSED_SHORT);
     checks_as("check of no bytes", &empty, RITHENNAW_REFUSED_SHORT);
-    checks_changed("check of version 2", 0, 2, RITHENNAW_REFUSED_VERSION);
+    checks_changed("check of version 0", 0, 0, RITHENNAW_REFUSED_VERSION);
+    checks_changed("check of version 3", 0, 3, RITHENNAW_REFUSED_VERSION);
+    checks_changed("check of B as version 2", 0, 2, RITHENNAW_REFUSED_RECORD_LENGTH);
     checks_changed("check of a program of 17 bytes", 2, 17, RITHENNAW_REFUSED_PROGRAM_LENGTH);
     checks_changed("check of an instruction 255", 3, 255, RITHENNAW_REFUSED_INSTRUCTION);
     checks_changed("check of turn slot 16", TURN_SLOT_AT, 16, RITHENNAW_REFUSED_TURN_SLOT);
     checks_changed("check of a record of 38 bytes", SLOT_0_AT + 1, 38, RITHENNAW_REFUSED_RECORD_LENGTH);
-    checks_changed("check of kind 6", SLOT_0_AT + 2, 6, RITHENNAW_REFUSED_TASK_FIELD);
+    checks_changed("check of kind 6", SLOT_0_AT + KIND_AT, 6, RITHENNAW_REFUSED_TASK_FIELD);
     checks_as("check of a message of label 16", &label_16, RITHENNAW_REFUSED_MAIL);
     checks_as("check of a message of sender 16", &posted, RITHENNAW_ACCEPTED);
     checks_as("check of a message of sender 17", &sender_17, RITHENNAW_REFUSED_MAIL);
@@ -409,6 +486,7 @@ static void try_record(void)
     record("record of slot 0 of B", &b, 0, SLOT_0_AT + 2, 37);
     record("record of slot 5 of B", &b, 5, SLOT_5_AT + 2, 37);
     record("record of slot 5 of P2", &p2, 5, SLOT_5_AT + 2, 43);
+    record("record of slot 5 of B in version 2", &b_2, 5, SLOT_5_AT + 1 + 2, 38);
     record("record of slot 1 of B, which is unused", &b, 1, 0, 0);
     record("record of slot 16 of B", &b, 16, 0, 0);
     record("record of slot 2^32 - 11 of B", &b, 0xfffffff5u, 0, 0);
@@ -421,6 +499,8 @@ static void try_rewrite(void)
     rewrites("rewrite of B", &b, OUT_LENGTH, RITHENNAW_ACCEPTED, &b);
     rewrites("rewrite of B into just enough", &b, b.length, RITHENNAW_ACCEPTED, &b);
     rewrites("rewrite of P2", &p2, OUT_LENGTH, RITHENNAW_ACCEPTED, &p2);
+    rewrites("rewrite of B in version 2", &b_2, OUT_LENGTH, RITHENNAW_ACCEPTED, &b_2);
+    rewrites("rewrite of kind 6", &stopped_6, OUT_LENGTH, RITHENNAW_ACCEPTED, &stopped_6);
     rewrites("rewrite of B cut by a byte", &cut, OUT_LENGTH, RITHENNAW_REFUSED_SHORT, NULL);
     rewrites("rewrite of no bytes", &empty, 0, RITHENNAW_REFUSED_SHORT, NULL);
     rewrites("rewrite of B into a byte too few", &b, b.length - 1, RITHENNAW_REFUSED_OUTPUT, NULL);
@@ -436,6 +516,9 @@ static void try_turns(void)
     turns("P2 after 5 turns more", &p2, 5, OUT_LENGTH, RITHENNAW_ACCEPTED, &p3, 1);
     turns("P5 after 6 turns", &p5, 6, OUT_LENGTH, RITHENNAW_ACCEPTED, &p5_after, 2);
     turns("B with a post after 6 turns", &posted, 6, OUT_LENGTH, RITHENNAW_ACCEPTED, &taken, 2);
+    turns("B in version 2 after 6 turns", &b_2, 6, OUT_LENGTH, RITHENNAW_ACCEPTED, &p3_2, 2);
+    turns("a raise within the clearance", &raise, 1, OUT_LENGTH, RITHENNAW_ACCEPTED, &raised, 1);
+    turns("a raise outside the clearance", &outside, 1, OUT_LENGTH, RITHENNAW_ACCEPTED, &stopped_6, 1);
     turns("1,000,001 turns", &b, RITHENNAW_TURNS_MAX + 1, OUT_LENGTH, RITHENNAW_REFUSED_TURN_LIMIT, NULL, 0);
     turns("2^32 turns", &b, (uint64_t)1 << 32, OUT_LENGTH, RITHENNAW_REFUSED_TURN_LIMIT, NULL, 0);
     turns("1,000,001 turns of no bytes", &empty, RITHENNAW_TURNS_MAX + 1, 0, RITHENNAW_REFUSED_TURN_LIMIT, NULL, 0);
@@ -450,9 +533,10 @@ static void posts_to_stopped(void)
     struct image stopped = b;
     uint8_t kind;
     for (kind = 2; kind <= 5; kind++) {
-        stopped.bytes[SLOT_5_AT + 2] = kind;
+        stopped.bytes[SLOT_5_AT + KIND_AT] = kind;
         posts("post to a stopped task", &stopped, 5, 0, OUT_LENGTH, RITHENNAW_ACCEPTED, &stopped, 0);
     }
+    posts("post to a task of kind 6", &stopped_6, 0, 0, OUT_LENGTH, RITHENNAW_ACCEPTED, &stopped_6, 0);
 }
 
 static void try_post(void)
@@ -488,6 +572,7 @@ static void try_view(void)
     views("view of P5 for 15", &p5_after, 15, OUT_LENGTH, RITHENNAW_ACCEPTED, &p5_after);
     views("view of a post of label 2 for 0", &posted_2, 0, OUT_LENGTH, RITHENNAW_ACCEPTED, &b);
     views("view of a post of label 2 for 2", &posted_2, 2, OUT_LENGTH, RITHENNAW_ACCEPTED, &posted_2);
+    views("view of kind 6 for 0", &stopped_6, 0, OUT_LENGTH, RITHENNAW_ACCEPTED, &stopped_6);
     views("view for 16", &b, 16, OUT_LENGTH, RITHENNAW_REFUSED_OBSERVER, NULL);
     views("view for 256", &b, 256, OUT_LENGTH, RITHENNAW_REFUSED_OBSERVER, NULL);
     views("view for 16 of no bytes", &empty, 16, 0, RITHENNAW_REFUSED_OBSERVER, NULL);
@@ -500,11 +585,13 @@ static void try_sheet(void)
 {
     static const char of_p2[] = "slot kind label spare pc mail\n0 1 0 0 1 0\n5 1 0 0 2 1\n";
     static const char of_p5_for_0[] = "slot kind label spare pc mail\n0 1 0 0 1 0\n5 1 0 0 2 0\n";
+    static const char of_stopped_6[] = "slot kind label spare pc mail\n0 6 0 0 0 0\n5 1 0 0 2 0\n";
     const size_t enough = sizeof of_p2 - 1;
     sheets("sheet of P2 for 0", &p2, 0, OUT_LENGTH, RITHENNAW_ACCEPTED, of_p2);
     sheets("sheet of P2 for 0 into just enough", &p2, 0, enough, RITHENNAW_ACCEPTED, of_p2);
     sheets("sheet of P5 for 0", &p5_after, 0, RITHENNAW_SHEET_MAX, RITHENNAW_ACCEPTED, of_p5_for_0);
     sheets("sheet of P5 for 2", &p5_after, 2, RITHENNAW_SHEET_MAX, RITHENNAW_ACCEPTED, of_p2);
+    sheets("sheet of kind 6 for 0", &stopped_6, 0, RITHENNAW_SHEET_MAX, RITHENNAW_ACCEPTED, of_stopped_6);
     sheets("sheet for 16", &p2, 16, OUT_LENGTH, RITHENNAW_REFUSED_OBSERVER, "");
     sheets("sheet for 256", &p2, 256, OUT_LENGTH, RITHENNAW_REFUSED_OBSERVER, "");
     sheets("sheet for 16 of no bytes", &empty, 16, 0, RITHENNAW_REFUSED_OBSERVER, "");
@@ -688,8 +775,10 @@ int main(void)
 {
     make_images();
     make_posted();
+    make_cleared();
     make_programs();
     try_check();
+    try_check_2();
     try_record();
     try_rewrite();
     try_turns();

@@ -15,8 +15,8 @@
 /* The bytes below the caller's frame that are not filled, since its own code may use them: no figure is less. */
 enum { STACK = 1 << 20, PATTERN = 0xa5, MARGIN = 512 };
 
-/* The image that the calls take: sixteen live tasks that take, poll and send to slot 1, each with 64 messages, four of each
- * label; but slot 15 has room for one of label 15, which is posted. And the longest program and its text. */
+/* The image that the calls take, of version 2: sixteen live tasks that take, poll and send to slot 1, each with 64 messages,
+ * four of each label; but slot 15 has room for one of label 15, which is posted. And the longest program and its text. */
 static uint8_t image[RITHENNAW_IMAGE_MAX];
 static size_t image_len;
 static uint8_t program[RITHENNAW_PROGRAM_MAX];
@@ -36,7 +36,7 @@ static void make_image(void)
     /* take 3 4, send 1 0 2, poll 3 4 0, go 0 */
     static const uint8_t program[16] = {0x09, 3, 4, 0, 0x08, 1, 0, 2, 0x0a, 3, 4, 0, 0x05, 0, 0, 0};
     unsigned slot, mail, length_of_record, i;
-    put(1);
+    put(2);
     put(0);
     put(sizeof program);
     for (i = 0; i < sizeof program; i++) {
@@ -45,11 +45,11 @@ static void make_image(void)
     put(0);
     for (slot = 0; slot < 16; slot++) {
         mail = slot < 15 ? 64 : 63;
-        length_of_record = 37 + 6 * mail;
+        length_of_record = 38 + 6 * mail;
         put(length_of_record >> 8);
         put(length_of_record & 0xff);
-        for (i = 0; i < 37; i++) {
-            put(i == 0 || i == 5 + 4 * 1 + 3); /* kind 1, register 1 holds 1, all else 0 */
+        for (i = 0; i < 38; i++) {
+            put(i == 0 || i == 6 + 4 * 1 + 3); /* kind 1, register 1 holds 1, all else 0 */
         }
         for (i = 0; i < mail; i++) {
             put(i % 16);

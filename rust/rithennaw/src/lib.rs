@@ -60,7 +60,24 @@
 //! # Ok::<(), Refusal>(())
 //! ```
 //!
-//! The same program as text. A line has the word of an instruction and three numbers, and always a line feed.
+//! A ceiling. In an image of version 2 each task has a clearance behind its label, the owners whose figures it may ever
+//! touch. A raise that would leave it stops the task with kind 6 and changes nothing else.
+//!
+//! ```
+//! use rithennaw::{check, record, turns, Refusal};
+//!
+//! // Version 2; raise by owner 1 (label 2), end; turn slot 0. Slot 0: kind 1, label 1, the clearance, all else 0.
+//! let image = |clearance: u8| {
+//!     let ahead = [2, 0, 8, 0x07, 2, 0, 0, 0x00, 0, 0, 0, 0];
+//!     [&ahead[..], &[0, 38, 1, 1, clearance], &[0; 35], &[0; 15 * 2]].concat()
+//! };
+//! assert_eq!(record(&turns(&image(3), 1)?.image, 0)[..3], [1, 3, 3]); // the label is 3
+//! assert_eq!(record(&turns(&image(5), 1)?.image, 0)[..3], [6, 1, 5]); // stopped, with label 1
+//! assert_eq!(check(&image(2)), Err(Refusal::TaskField)); // label 1 isn't within clearance 2
+//! # Ok::<(), Refusal>(())
+//! ```
+//!
+//! The first example's program as text. A line has the word of an instruction and three numbers, and always a line feed.
 //!
 //! ```
 //! use rithennaw::{assemble, disassemble, Refusal};
@@ -100,7 +117,7 @@ pub use refusal::Refusal;
 pub const IMAGE_MIN: usize = 40;
 
 /// The length of the longest image. A buffer of this length is long enough for every call.
-pub const IMAGE_MAX: usize = 7796;
+pub const IMAGE_MAX: usize = 7812;
 
 /// A buffer of this length is long enough for every sheet.
 pub const SHEET_MAX: usize = 318;

@@ -106,6 +106,26 @@ fn a_post_without_room_or_a_live_task_is_dropped() {
     for kind in 2..=5 {
         dropped(receiver(&format!("kind {kind}")), 3);
     }
+    dropped(cleared("end 0 0 0", "kind 6"), 0);
+}
+
+/// A task of version 2 in slot 0 that has one instruction, and these fields.
+fn cleared(instruction: &str, fields: &str) -> Vec<u8> {
+    image(&format!("version 2\nprogram\n {instruction}\nslot 0 {fields}"))
+}
+
+#[test]
+fn a_raise_that_would_leave_the_clearance_stops_the_task() {
+    let before = cleared("raise 2 0 0", "label 1 clearance 5");
+    let after = turns(&before, 16).unwrap();
+    assert_eq!((after.image, after.busy), (cleared("raise 2 0 0", "kind 6 label 1 clearance 5"), 1));
+}
+
+#[test]
+fn a_raise_within_the_clearance_is_made() {
+    let before = cleared("raise 2 0 0", "label 1 clearance 7");
+    let after = turns(&before, 16).unwrap().image;
+    assert_eq!(record(&after, 0), record(&cleared("raise 2 0 0", "label 3 clearance 7 place 1"), 0));
 }
 
 #[test]
@@ -158,12 +178,17 @@ fn an_image_that_breaks_a_rule_is_refused_by_every_call() {
     };
     refused(&[], Refusal::Short);
     refused(&image[..image.len() - 1], Refusal::Short);
-    refused(&changed(0, 2), Refusal::Version);
+    refused(&changed(0, 0), Refusal::Version);
+    refused(&changed(0, 3), Refusal::Version);
+    refused(&changed(0, 2), Refusal::RecordLength);
     refused(&changed(2, 9), Refusal::ProgramLength);
     refused(&changed(3, 255), Refusal::Instruction);
     refused(&changed(11, 16), Refusal::TurnSlot);
     refused(&changed(13, 36), Refusal::RecordLength);
     refused(&changed(14, 6), Refusal::TaskField);
+    refused(&cleared("end 0 0 0", "kind 7"), Refusal::TaskField);
+    refused(&cleared("end 0 0 0", "clearance 16"), Refusal::TaskField);
+    refused(&cleared("end 0 0 0", "label 3 clearance 5"), Refusal::TaskField);
     refused(&[&image[..], &[0]].concat(), Refusal::Tail);
     refused(&changed(16, 1), Refusal::Estate);
     let sent = turns(&image, 1).unwrap().image;
