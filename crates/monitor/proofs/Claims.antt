@@ -83,7 +83,7 @@ none-in-any-other-event image out = (
   λ slot label value. numbers-by-cause (postCall slot label value image) out (post-number slot label) (image-listed image),
 )
 
--- a valid state's image has at most 7,796 bytes
+-- a valid state's image has at most 7,812 bytes
 room : (s : State) → Valid s → (out : List ℕ) → longestImage ≤ length out → length (imageBytes s) ≤ length out
 room s ok out h = omega (arith, accepted-length (imageBytes s) (written-accepted s ok .number))
 
