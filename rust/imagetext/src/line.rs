@@ -1,6 +1,7 @@
 //! A line of the text: its words, the numbers among them, and what is wrong with it.
 
 use std::fmt;
+use std::ops::RangeInclusive;
 use std::str::FromStr;
 
 /// What is wrong with the text, and the line (from 1) where it was met.
@@ -54,14 +55,15 @@ impl Line<'_> {
         self.decimal(word)?.parse().map_err(|_| too_large())
     }
 
-    /// The number of one of `count` things.
-    pub fn index(&self, what: &str, word: &str, count: usize) -> Result<usize, Fault> {
-        let index: usize = self.number(word)?;
-        if index < count {
-            Ok(index)
-        } else {
-            Err(self.fault(format!("there is no {what} {word}: the last is {}", count - 1)))
+    /// The number of one of the things that have these numbers.
+    pub fn one_of(&self, what: &str, word: &str, numbers: RangeInclusive<usize>) -> Result<usize, Fault> {
+        let number = self.number(word)?;
+        if numbers.contains(&number) {
+            return Ok(number);
         }
+        let (first, last) = numbers.into_inner();
+        let known = if number < first { format!("the first is {first}") } else { format!("the last is {last}") };
+        Err(self.fault(format!("there is no {what} {word}: {known}")))
     }
 }
 

@@ -2,11 +2,11 @@
 
 use crate::line::{is_decimal, Fault, Line};
 use crate::program::Names;
-use layout::{Message, Task, HOST};
+use layout::{clearance_length, Message, Task, HOST};
 use std::collections::HashSet;
 
-/// The task whose fields stand behind `slot SLOT` and on the lines below it.
-pub fn task(head: &Line, body: &[Line], names: &Names) -> Result<Task, Fault> {
+/// The task whose fields stand behind `slot SLOT` and on the lines below it, in an image of this version.
+pub fn task(head: &Line, body: &[Line], names: &Names, version: u8) -> Result<Task, Fault> {
     let mut task = Task::default();
     let mut given = HashSet::new();
     let lines = std::iter::once((head, &head.words[2..])).chain(body.iter().map(|line| (line, &line.words[..])));
@@ -14,6 +14,9 @@ pub fn task(head: &Line, body: &[Line], names: &Names) -> Result<Task, Fault> {
         while !words.is_empty() {
             let (field, behind) = words.split_at(read_field(&mut task, line, words, names)?);
             let name = &field[..field.len() - 1];
+            if field[0] == "clearance" && clearance_length(version) == 0 {
+                return Err(line.fault("an image of version 1 has no clearances: one of `version 2` has"));
+            }
             if field[0] != "message" && !given.insert(name) {
                 return Err(line.fault(format!("`{}` is given twice", name.join(" "))));
             }
@@ -28,10 +31,11 @@ fn read_field(task: &mut Task, line: &Line, words: &[&str], names: &Names) -> Re
     match words {
         ["kind", kind, ..] => task.kind = line.number(kind)?,
         ["label", label, ..] => task.label = line.number(label)?,
+        ["clearance", clearance, ..] => task.clearance = line.number(clearance)?,
         ["spare", spare, ..] => task.spare = line.number(spare)?,
         ["place", place, ..] => task.place = line.number(&names.decimal(line, place)?)?,
         ["register", register, value, ..] => {
-            let index = line.index("register", register, task.registers.len())?;
+            let index = line.one_of("register", register, 0..=task.registers.len() - 1)?;
             task.registers[index] = line.number(value)?;
             return Ok(3);
         }
@@ -42,7 +46,7 @@ fn read_field(task: &mut Task, line: &Line, words: &[&str], names: &Names) -> Re
         }
         _ => {
             return Err(line.fault(format!(
-                "expected `kind K`, `label L`, `spare K`, `place P`, `register R VALUE` or \
+                "expected `kind K`, `label L`, `clearance C`, `spare K`, `place P`, `register R VALUE` or \
                  `message LABEL SENDER VALUE` at `{}`",
                 words.join(" ")
             )));

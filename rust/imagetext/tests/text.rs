@@ -74,16 +74,30 @@ fn the_longest_program_has_256_instructions() {
     assert_eq!(bytes[3 + 4 * 255..3 + 4 * 256], [5, 255, 0, 0]);
 }
 
-#[test]
-fn every_field_has_its_place() {
-    let text = "program\nend 0 0 0\nturn 7\nslot 15\nkind 4\nlabel 3\nspare 2\nplace 258\n\
-                register 7 4294967295\nregister 0 1\nmessage 8 9 16909060\nmessage 0 0 0\n";
-    let mut should = vec![1, 0, 4, 0, 0, 0, 0, 7];
+/// With these lines for version and clearance a text gives that first byte and a record with that front: its length, and all
+/// ahead of the spare.
+fn expect_fields(version: &str, clearance: &str, first_byte: u8, front: &[u8]) {
+    let text = format!(
+        "{version}program\nend 0 0 0\nturn 7\nslot 15\nkind 4\nlabel 3\n{clearance}spare 2\nplace 258\n\
+         register 7 4294967295\nregister 0 1\nmessage 8 9 16909060\nmessage 0 0 0\n"
+    );
+    let mut should = vec![first_byte, 0, 4, 0, 0, 0, 0, 7];
     should.extend([0; 15 * 2]);
-    should.extend([0, 37 + 2 * 6, 4, 3, 2, 1, 2]);
+    should.extend(front);
+    should.extend([2, 1, 2]);
     should.extend([[0, 0, 0, 1], [0; 4], [0; 4], [0; 4], [0; 4], [0; 4], [0; 4], [255; 4]].concat());
     should.extend([8, 9, 1, 2, 3, 4, 0, 0, 0, 0, 0, 0]);
-    assert_eq!(image(text), Ok(should));
+    assert_eq!(image(&text), Ok(should), "{text}");
+}
+
+#[test]
+fn every_field_has_its_place_in_each_version() {
+    for version in ["", "version 1\n"] {
+        expect_fields(version, "", 1, &[0, 37 + 2 * 6, 4, 3]);
+    }
+    for (clearance, byte) in [("clearance 7\n", 7), ("clearance 0\n", 0), ("", 15)] {
+        expect_fields("version 2\n", clearance, 2, &[0, 38 + 2 * 6, 4, 3, byte]);
+    }
 }
 
 /// The shortest program, and this below it.
@@ -119,11 +133,35 @@ fn what_is_not_given_is_0() {
     assert_eq!(image("# a comment\n\n   \t# another\nprogram # and one behind a word\r\nend\t0  0 0\r\n"), Ok(nothing));
 }
 
-/// These break 01's rules for tasks and the turn slot, which the monitor judges.
+/// The version says what all records have, also those ahead of its line.
+#[test]
+fn the_version_may_stand_anywhere() {
+    let parts = ["program\nend 0 0 0\n", "turn 3\n", "slot 0\nclearance 6\nlabel 4\n", "slot 1 label 1 clearance 3\n"];
+    let should = image(&format!("version 2\n{}", parts.concat())).unwrap();
+    assert_eq!(should[..8], [2, 0, 4, 0, 0, 0, 0, 3]);
+    assert_eq!(should[8..14], [0, 38, 1, 4, 6, 0]);
+    for at in 1..=parts.len() {
+        let (ahead, behind) = parts.split_at(at);
+        assert_eq!(image(&[ahead, &["version 2\n"], behind].concat().concat()).as_ref(), Ok(&should), "{at}");
+    }
+}
+
+/// These break the rules of 01 and U5 for tasks and the turn slot, which the monitor judges.
 #[test]
 fn rules_for_tasks_are_left_to_the_monitor() {
-    for rest in ["turn 16\n", "slot 3\nspare 13\n", "slot 0\nkind 9\nmessage 255 17 0\n", "slot 0\nplace 2\n"] {
+    let rests = [
+        "turn 16\n",
+        "slot 3\nspare 13\n",
+        "slot 0\nkind 9\nmessage 255 17 0\n",
+        "slot 0\nplace 2\n",
+        "slot 0\nkind 6\n",
+    ];
+    for rest in rests {
         assert!(image(&with_program(rest)).is_ok(), "{rest}");
+        assert!(image(&with_program(&format!("version 2\n{rest}"))).is_ok(), "{rest}");
+    }
+    for rest in ["slot 0\nclearance 255\n", "slot 0\nlabel 8\nclearance 7\n"] {
+        assert!(image(&with_program(&format!("version 2\n{rest}"))).is_ok(), "{rest}");
     }
 }
 
@@ -138,16 +176,40 @@ fn expect_faults(texts: &[(&str, &str)]) {
 #[test]
 fn faults_of_sections() {
     expect_faults(&[
-        ("# none\nend 0 0 0\n", "2: expected `program`, `turn SLOT` or `slot SLOT`"),
-        ("program 4\n", "1: expected `program`, `turn SLOT` or `slot SLOT`"),
-        ("turn\n", "1: expected `program`, `turn SLOT` or `slot SLOT`"),
-        ("slot\n", "1: expected `program`, `turn SLOT` or `slot SLOT`"),
+        ("# none\nend 0 0 0\n", "2: expected `version V`, `program`, `turn SLOT` or `slot SLOT`"),
+        ("program 4\n", "1: expected `version V`, `program`, `turn SLOT` or `slot SLOT`"),
+        ("turn\n", "1: expected `version V`, `program`, `turn SLOT` or `slot SLOT`"),
+        ("slot\n", "1: expected `version V`, `program`, `turn SLOT` or `slot SLOT`"),
         ("program\nend 0 0 0\nprogram\nend 0 0 0\n", "3: this part of the image is given twice"),
         ("turn 0\nturn 1\n", "2: this part of the image is given twice"),
         ("slot 4\nslot 5\nslot 4\n", "3: this part of the image is given twice"),
         ("turn 256\n", "1: `256` is too large for a field of 8 bits"),
         ("turn 0\nlabel 1\n", "2: nothing belongs to `turn` but its slot"),
         ("slot 16\n", "1: there is no slot 16: the last is 15"),
+    ]);
+}
+
+/// A fault of the version is told ahead of those of other parts, since tasks are read by it.
+#[test]
+fn faults_of_versions() {
+    expect_faults(&[
+        ("version\n", "1: expected `version V`, `program`, `turn SLOT` or `slot SLOT`"),
+        ("version 2 1\n", "1: expected `version V`, `program`, `turn SLOT` or `slot SLOT`"),
+        ("version 3\n", "1: there is no version 3: the last is 2"),
+        ("version 256\n", "1: there is no version 256: the last is 2"),
+        ("turn 256\nversion 0\n", "2: there is no version 0: the first is 1"),
+        ("version 02\n", "1: `02` is not a decimal number without leading zeros"),
+        ("version 2\nturn 0\nversion 2\n", "3: this part of the image is given twice"),
+        ("version 1\nlabel 1\n", "2: nothing belongs to `version` but its number"),
+        ("version 2\n", "1: the text has no `program`"),
+    ]);
+}
+
+#[test]
+fn a_clearance_in_version_1_is_a_fault() {
+    expect_faults(&[
+        ("slot 0\nlabel 1\nclearance 15\n", "3: an image of version 1 has no clearances: one of `version 2` has"),
+        ("slot 0 clearance 15\nversion 1\n", "1: an image of version 1 has no clearances: one of `version 2` has"),
     ]);
 }
 
@@ -207,9 +269,13 @@ fn faults_of_operands() {
 #[test]
 fn faults_of_tasks() {
     let no_field = |at: &str| {
-        format!("{at}: expected `kind K`, `label L`, `spare K`, `place P`, `register R VALUE` or `message LABEL SENDER VALUE`")
+        format!(
+            "{at}: expected `kind K`, `label L`, `clearance C`, `spare K`, `place P`, `register R VALUE` or \
+             `message LABEL SENDER VALUE`"
+        )
     };
     let full = format!("turn 0\nslot 0\n{}", "message 0 0 0\n".repeat(10_917));
+    let full_2 = format!("{full}version 2\n");
     expect_faults(&[
         ("slot 0 0\n", &(no_field("1") + " at `0`")),
         ("slot 0 label 1 kind\n", &(no_field("1") + " at `kind`")),
@@ -224,7 +290,11 @@ fn faults_of_tasks() {
         ("slot 0\nregister 1 4294967296\n", "2: `4294967296` is too large for a field of 32 bits"),
         ("slot 0 register 1 1\nregister 1 2\n", "2: `register 1` is given twice"),
         ("slot 0\nlabel 1\n\nlabel 1\n", "4: `label` is given twice"),
+        ("version 2\nslot 0 clearance 7\nclearance 7\n", "3: `clearance` is given twice"),
+        ("version 2\nslot 0\nclearance\n", &(no_field("3") + " at `clearance`")),
+        ("version 2\nslot 0\nclearance 256\n", "3: `256` is too large for a field of 8 bits"),
         (&full, "2: 65539 bytes are too many for a 2-byte length"),
+        (&full_2, "2: 65540 bytes are too many for a 2-byte length"),
     ]);
 }
 

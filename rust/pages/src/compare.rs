@@ -1,7 +1,7 @@
 //! Each example run through the monitor, and what the page says compared with what the monitor gives.
 
 use imagetext::Fault;
-use layout::{REGISTERS_AT, TASK_LENGTH};
+use layout::{registers_at, task_length};
 use rithennaw::{disassemble, post, record, sheet, turns, view, Refusal};
 
 use crate::example::{examples, Example, Instruction, Listing, Post, Register, Sheet, Step, What};
@@ -118,7 +118,7 @@ fn compare_sheet(shown: Result<(String, Vec<u8>), Refusal>, should: &Sheet, line
 }
 
 fn compare_register(view: &[u8], should: &Register) -> Result<(), Fault> {
-    let message = match registers(record(view, should.slot)).nth(should.index) {
+    let message = match registers(view, should.slot).nth(should.index) {
         Some(value) if value == should.value => return Ok(()),
         Some(value) => format!("the monitor gives {value}"),
         None => "the observer is shown no such register".into(),
@@ -144,8 +144,9 @@ fn listing(image: &[u8]) -> String {
     disassemble(program.unwrap_or_default()).unwrap_or_default()
 }
 
-/// The eight registers of a record; none where the slot is unused.
-fn registers(record: &[u8]) -> impl Iterator<Item = u32> + '_ {
-    let bytes = record.get(REGISTERS_AT..TASK_LENGTH).unwrap_or_default();
+/// The eight registers of a slot's task; none where the slot is unused or there is no image.
+fn registers(image: &[u8], slot: u32) -> impl Iterator<Item = u32> + '_ {
+    let in_record = |&version: &u8| record(image, slot).get(registers_at(version)..task_length(version));
+    let bytes = image.first().and_then(in_record).unwrap_or_default();
     bytes.chunks(4).map(|register| register.iter().fold(0, |value, byte| value << 8 | u32::from(*byte)))
 }

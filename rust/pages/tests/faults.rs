@@ -65,12 +65,29 @@ slot kind label spare pc mail
 ```
 ";
 
+/// Registers stand a byte further on in version 2; the neighbours of those asked for have other values.
+const VERSION_2: &str = "\
+```example
+version 2
+program
+    raise 8 0 0
+slot 3  label 2  clearance 7  spare 1  register 0 9  register 6 16777216  register 7 3  message 2 host 5
+after 16 turns, observer 2
+slot kind label spare pc mail
+3 6 2 1 0 1
+register 0 of slot 3 is 9
+register 6 of slot 3 is 16777216
+register 7 of slot 3 is 3
+```
+";
+
 #[test]
 fn everything_is_counted() {
     let none = Compared::default;
     assert_eq!(compare(PAGE), Ok(Compared { images: 2, sheets: 4, registers: 1, instructions: 1, ..none() }));
     assert_eq!(compare(LISTINGS), Ok(Compared { images: 2, listings: 2, sheets: 1, ..none() }));
     assert_eq!(compare(POSTS), Ok(Compared { images: 1, posts: 3, sheets: 1, ..none() }));
+    assert_eq!(compare(VERSION_2), Ok(Compared { images: 1, sheets: 1, registers: 3, ..none() }));
     assert_eq!(compare("# No example\n"), Ok(none()));
 }
 
@@ -107,6 +124,18 @@ fn what_the_monitor_does_not_give() {
     }
     expect_fault("instruction 0", "instruction 1", "12: the observer is shown no such instruction");
     expect_fault("refused 1", "refused 1\ninstruction 0 is end 0 0 0", "17: the observer is shown no such instruction");
+}
+
+#[test]
+fn what_the_monitor_does_not_give_of_version_2() {
+    let expect = |from: &str, to: &str, should: &str| expect_fault_in(VERSION_2, from, to, should);
+    expect("version 2\n", "", "4: an image of version 1 has no clearances: one of `version 2` has");
+    expect("clearance 7", "clearance 10", "6: the monitor gives\nslot kind label spare pc mail\n");
+    expect("clearance 7", "clearance 5", "6: the monitor gives\nrefused 9\n");
+    expect("3 6 2 1 0 1", "3 4 2 1 0 1", "6: the monitor gives\nslot kind label spare pc mail\n3 6 2 1 0 1\n");
+    expect("is 9", "is 8", "9: the monitor gives 9");
+    expect("is 3", "is 4", "11: the monitor gives 3");
+    expect("register 7 of", "register 8 of", "11: the observer is shown no such register");
 }
 
 #[test]
