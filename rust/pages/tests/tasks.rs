@@ -1,7 +1,9 @@
 //! docs/TASKS.md: every example gives what the page says, there are as many as the page says, and it has the table of
-//! instructions; the lines of its table of refusals are refused with the numbers beside them.
+//! instructions and where the fields of a record stand; the lines of its table of refusals are refused with the numbers beside
+//! them.
 
 use layout::instructions::{Operand, Row, TABLE};
+use layout::{clearance_length, place_at, registers_at, task_length, MESSAGE_LENGTH, VERSIONS};
 use pages::{compare, Compared};
 use rithennaw::assemble;
 
@@ -50,6 +52,26 @@ fn the_page_has_the_table_of_instructions() {
     assert_eq!(rows.len(), TABLE.len());
     for (row, instruction) in rows.iter().zip(TABLE) {
         assert!(row.starts_with(&on_page(instruction)), "{row}, and not {}", on_page(instruction));
+    }
+}
+
+/// The offsets of kind, label, clearance, spare, place, registers and messages.
+fn offsets(version: u8) -> [String; 7] {
+    let clearance = if clearance_length(version) == 0 { "none".into() } else { "2".into() };
+    let [spare, place] = [place_at(version) - 1, place_at(version)].map(|offset| offset.to_string());
+    let registers = format!("{} + 4 × r", registers_at(version));
+    let messages = format!("{} + {MESSAGE_LENGTH} × m", task_length(version));
+    ["0".into(), "1".into(), clearance, spare, place, registers, messages]
+}
+
+#[test]
+fn the_page_has_the_offsets_and_lengths_of_records() {
+    for (version, column) in VERSIONS.into_iter().zip(1..) {
+        let rows = rows("| offset in version 1 | offset in version 2 |");
+        let on_page: Vec<&str> = rows.filter_map(|row| row.split('|').nth(column)).map(str::trim).collect();
+        assert_eq!(on_page, offsets(version));
+        let length = format!("{} + {MESSAGE_LENGTH} × k bytes in version {version}", task_length(version));
+        assert!(PAGE.contains(&length), "docs/TASKS.md does not say {length}");
     }
 }
 
