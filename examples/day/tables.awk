@@ -2,13 +2,14 @@
 # each observer sees of the journal's first posting.
 # Usage: awk -f tables.awk day.txt journal SHEETS. The tasks' names are the comments at day.txt's slot lines.
 BEGIN {
-    split("live,done,ran off,label,spare", kinds, ",")
+    split("live,done,ran off,label,spare,clearance", kinds, ",")
     title[0] = "The public (observer 0)"
     said[0] = "Sees the task with label 0 alone. The message in its mailbox has label 8 and is left out."
     title[1] = "The assay library, owner 0 (observer 1)"
     said[1] = "Sees that its task has received a figure and sent one. Who received that, and what became of it, is hidden."
     title[2] = "The additive maker, owner 1 (observer 2)"
-    said[2] = "Sees its own task in the same way, and nothing of the assay library's."
+    said[2] = "Sees its own task in the same way, and nothing of the assay library's.\n" \
+              "Its helper was stopped by its clearance where it reached for the desk's position. That message is hidden: mail is 0."
     title[4] = "The refinery, owner 2 (observer 4)"
     said[4] = "The blend rose to label 7 to receive the others' figures: now it is hidden, even from its owner.\n" \
               "The planner stayed at label 4 and shows. What floods its mailbox is hidden: mail is 0."
@@ -18,7 +19,7 @@ BEGIN {
     said[8] = "Sees its task stopped by a label where it tried to publish the position. No other owner does.\n" \
               "The planner's mailbox is hidden: the desk never learns which of its messages were dropped."
     title[15] = "The host (observer 15)"
-    said[15] = "Sees everything, also the four messages that the flood left in slot 2."
+    said[15] = "Sees everything, also the four messages that the flood left in slot 2, and the one that slot 6 could not receive."
 }
 
 FILENAME == ARGV[1] {
@@ -43,7 +44,7 @@ $1 == "line" { line = $2 }
 $1 == "observer" { observer = $2 }
 $1 == "observer" && line == 0 { observers[++observer_count] = observer }
 /^[0-9]/ {
-    task[observer, line, $1] = sprintf("%-7s %5s %5s %2s %4s", kinds[$2], $3, $4, $5, $6)
+    task[observer, line, $1] = sprintf("%-9s %5s %5s %2s %4s", kinds[$2], $3, $4, $5, $6)
     mail[observer, line, $1] = kinds[$2] ", mail " $6
 }
 
@@ -52,11 +53,11 @@ function or_unused(text) {
 }
 
 function print_row(slot, task_name, before, after) {
-    printf "  %4s %-15s  %-27s   %s\n", slot, task_name, or_unused(before), or_unused(after)
+    printf "  %4s %-15s  %-29s   %s\n", slot, task_name, or_unused(before), or_unused(after)
 }
 
 function print_table(observer,    slot, fields) {
-    fields = "kind    label spare pc mail"
+    fields = "kind      label spare pc mail"
     printf "\n%s\n%s\n", title[observer], said[observer]
     print_row("", "", "before", "after")
     print_row("slot", "task", fields, fields)
