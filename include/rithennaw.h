@@ -9,8 +9,8 @@
  *
  * Image versions. The first byte of an image is its version, 1 or 2. In version 2 a task has one byte more, behind its label:
  * its clearance, a label that contains its own. A raise that would leave the clearance stops the task with kind 6, which
- * version 1 does not have; a child has its parent's clearance. Version 1 is read as clearance 15. Each call takes both, and
- * what it writes has the version that it read.
+ * version 1 does not have; a child has its parent's clearance. Version 1 is read as clearance 15. Each call
+ * that takes an image takes both, and an image that it writes has the version of the one that it read.
  *
  * Numbers. All calls but `rithennaw_record` return 0 (RITHENNAW_ACCEPTED), or the number of the first rule that is broken.
  * The order for an image: 1, 2, or 14 and then 15, by the call's own arguments; then the image from front to back; then 11,
@@ -105,7 +105,7 @@ enum rithennaw_number {
     RITHENNAW_REFUSED_INSTRUCTION = 6,
     /* The turn slot is above 15. */
     RITHENNAW_REFUSED_TURN_SLOT = 7,
-    /* A record's length is neither 0 nor 37 + 6 * k, in version 2 38 + 6 * k, k at most 64. */
+    /* A record's length is neither 0 nor 37 + 6 * k (38 + 6 * k in version 2), k at most 64. */
     RITHENNAW_REFUSED_RECORD_LENGTH = 8,
     /* A task's kind, label, clearance or place is out of range, its label isn't within its clearance, or slot + spare is above 15. */
     RITHENNAW_REFUSED_TASK_FIELD = 9,
@@ -137,7 +137,7 @@ static inline const char *rithennaw_refusal_text(uint8_t number)
     case RITHENNAW_REFUSED_PROGRAM_LENGTH: return "The program's length is no multiple of 4 from 4 to 1,024: 1 to 256 instructions.";
     case RITHENNAW_REFUSED_INSTRUCTION: return "An instruction isn't in the table, or has an operand outside it.";
     case RITHENNAW_REFUSED_TURN_SLOT: return "The turn slot is above 15.";
-    case RITHENNAW_REFUSED_RECORD_LENGTH: return "A record's length is neither 0 nor 37 + 6 * k, in version 2 38 + 6 * k, k at most 64.";
+    case RITHENNAW_REFUSED_RECORD_LENGTH: return "A record's length is neither 0 nor 37 + 6 * k (38 + 6 * k in version 2), k at most 64.";
     case RITHENNAW_REFUSED_TASK_FIELD: return "A task's kind, label, clearance or place is out of range, its label isn't within its clearance, or slot + spare is above 15.";
     case RITHENNAW_REFUSED_MAIL: return "A message's label is above 15 or its sender above 16, or five or more are of one label.";
     case RITHENNAW_REFUSED_TAIL: return "There are bytes after slot 15.";

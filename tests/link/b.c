@@ -150,7 +150,7 @@ static void put_clearance(struct image *b, size_t slot_at, unsigned clearance)
 }
 
 /* An image with B's slots, from version 1 to 2: slot 0 gets the clearance, slot 5 has 15. */
-static void clear(struct image *b, unsigned clearance)
+static void to_version_2(struct image *b, unsigned clearance)
 {
     b->bytes[0] = 2;
     put_clearance(b, SLOT_5_AT, 15);
@@ -358,9 +358,9 @@ static struct image b_2, p3_2, raise, raised, outside, stopped_6;
 static void make_cleared(void)
 {
     b_2 = b;
-    clear(&b_2, 15);
+    to_version_2(&b_2, 15);
     p3_2 = p3;
-    clear(&p3_2, 15);
+    to_version_2(&p3_2, 15);
 
     /* Within clearance 7 the label becomes 3, and slot 0 is at place 1. */
     raise = b;
@@ -369,15 +369,15 @@ static void make_cleared(void)
     raised.bytes[TURN_SLOT_AT] = 1;
     raised.bytes[SLOT_0_AT + LABEL_AT] = 3;
     raised.bytes[SLOT_0_AT + PLACE_AT + 1] = 1;
-    clear(&raised, 7);
+    to_version_2(&raised, 7);
 
     /* Label 3 isn't within clearance 5: the kind is 6, and all else as it was. */
     outside = raise;
-    clear(&outside, 5);
+    to_version_2(&outside, 5);
     stopped_6 = outside;
     stopped_6.bytes[TURN_SLOT_AT] = 1;
     stopped_6.bytes[SLOT_0_AT + KIND_AT] = 6;
-    clear(&raise, 7);
+    to_version_2(&raise, 7);
 }
 
 /* ---- programs and their texts: of B, of every word in the table, the longest, and one of a line more */

@@ -12,8 +12,7 @@ use Rattle.machine.specs.State.{State}
 use Rattle.machine.specs.Post.{post}
 use Rattle.machine.specs.Valid.{Valid}
 use Rattle.machine.specs.Machine.{turns, view}
-use Rattle.machine.specs.Inner.{withVersion}
-use Rattle.machine.proofs.Valid.{valid-as-2}
+use Rattle.machine.proofs.Valid.{withVersion, valid-as-2}
 use Rattle.machine.proofs.Machine.{turns-valid, turns-version, turns-as-2, turns-program, post-valid, view-15}
 use Rattle.image.specs.Image.{versionOf, programOf, turnSlotOf, stateOf, imageBytes}
 use Rattle.image.specs.Refusal.{imageNumber}

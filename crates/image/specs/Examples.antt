@@ -57,7 +57,7 @@ fullImage v =
     imageBytes (record { version = v; program = replicate 1024 0; turnSlot = 0; slots = replicate 16 (used (withMailbox (fourOfEach 16) (task 0 0 0))) })
 
 pub record Examples : Type 0 where
-  -- "The shortest image has 40 bytes", "The longest image has 7,812 bytes": of version 2; of version 1 it has 7,796
+  -- "The shortest image has 40 bytes", "The longest image has 7,812 bytes": of version 2; the same image in version 1 has 7,796
   pub shortest : (imageNumber emptyImage ≡ 0) × (length emptyImage ≡ shortestImage)
   pub longest : (imageNumber (fullImage 2) ≡ 0) × (length (fullImage 2) ≡ longestImage)
   pub longestOf1 : (imageNumber (fullImage 1) ≡ 0) × (length (fullImage 1) ≡ 7796)
@@ -88,15 +88,15 @@ pub record Examples : Type 0 where
   -- "Image version 2 adds one byte after a task's label, the clearance": the record's length, kind, label, clearance and spare
   pub layout : (take 6 (slotBytes 2 (used (cleared 1 3 2 0))) ≡ 0 ∷ 38 ∷ 1 ∷ 1 ∷ 3 ∷ 2 ∷ []) × (take 5 (slotBytes 1 (used (task 1 2 0))) ≡ 0 ∷ 37 ∷ 1 ∷ 1 ∷ 2 ∷ [])
   -- "A clearance above 15, or a label not a subset of it, is number 9."
-  pub clearance : (numberIn 2 (one 3 (cleared 1 16 0 0)) ≡ 9) × (numberIn 2 (one 3 (cleared 1 2 0 0)) ≡ 9) × (numberIn 2 (one 3 (cleared 1 3 0 0)) ≡ 0)
-  -- "Kind 6 and version 2's lengths apply to version 2 only": kind 6 in each, kind 7, and an image of each under the other's number
+  pub clearance : (numberIn 2 (one 3 (cleared 0 16 0 0)) ≡ 9) × (numberIn 2 (one 3 (cleared 1 2 0 0)) ≡ 9) × (numberIn 2 (one 3 (cleared 1 3 0 0)) ≡ 0)
+  -- "Version 1 images read as clearance 15, and are written as version 1"
+  pub readAs15 : stateOf (image (one 3 (task 0 0 0))) .slots ≡ one 3 (cleared 0 15 0 0)
+  pub writtenAs1 : take 1 (imageBytes (stateOf (image (one 3 (task 0 0 0))))) ≡ 1 ∷ []
+  -- "Kind 6 and version 2's lengths apply to version 2 only": kind 6 in each, kind 7, and an image of each with the other's version byte
   pub kind6 : (numberIn 2 (one 3 (withKind 6 (task 0 0 0))) ≡ 0)
       × (numberIn 1 (one 3 (withKind 6 (task 0 0 0))) ≡ 9)
       × (numberIn 2 (one 3 (withKind 7 (task 0 0 0))) ≡ 9)
   pub exchanged : (imageNumber (set (imageIn 2 (one 3 (task 0 0 0))) 0 1) ≡ 8) × (imageNumber (set (imageIn 1 (one 3 (task 0 0 0))) 0 2) ≡ 8)
-  -- "Version 1 images read as clearance 15, and are written as version 1"
-  pub readAs15 : stateOf (image (one 3 (task 0 0 0))) .slots ≡ one 3 (cleared 0 15 0 0)
-  pub writtenAs1 : take 1 (imageBytes (stateOf (image (one 3 (task 0 0 0))))) ≡ 1 ∷ []
   -- "Order: 1 or 2 first [..]. Then the image from front to back [..] 13": each ahead of the next, where all are met
   pub call : (firstMet 1 (imageNumber []) (0 ∷ []) [] ≡ 1)
       × (firstMet 0 (imageNumber []) (0 ∷ []) [] ≡ 3)

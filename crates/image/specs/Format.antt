@@ -7,7 +7,7 @@ use Rattle.wire.specs.Fields.{Field, bytes, bytesIf, size}
 use Rattle.machine.specs.Limits.{highestLabel}
 use Rattle.machine.specs.Version.{hasClearances}
 
--- version (1), program length (2)
+-- version (1), program length (2), in both versions
 abbrev pub frontFields : ℕ → List Field
 frontFields v = bytes 1 ∷ bytes 2 ∷ []
 

@@ -1,5 +1,5 @@
 -- The numbers a caller may receive, in the order of 01 and 02: each with its condition, behind what comes before it. The tests of
--- tasks taken apart, behind 5, 9, 10 and 12, are machine's (machine/specs/Valid.antt). 16, and 5 and 6 of lines of text, are in
+-- tasks taken apart, behind 4, 5, 9, 10 and 12, are machine's (machine/specs/Version.antt, Valid.antt). 16, and 5 and 6 of lines of text, are in
 -- listing/specs/Listing.antt.
 use Prim.Native.Nat.{ℕ, zero, suc, _+_, _-_, _/_, _%_}
 use mathlib.Core.Bool.{Bool, true, false, _&&_, _||_}

@@ -28,6 +28,9 @@ const MAILBOX_AT: usize = 37;
 
 pub const MESSAGE_SIZE: usize = 6;
 
+// The sender of a message that the host posted, and the highest of all.
+pub const HOST: u8 = 16;
+
 // How many bytes the clearance has in an image of this version.
 pub fn clearance_width(version: u8) -> usize
     ensures { λ r. ⌜ (r ≡ clearanceWidth version) × (r ≤ 1) ⌝ }
@@ -52,9 +55,6 @@ pub fn clearance(version: u8, task: &[u8]) -> u8
         wire::byte_at(task, CLEARANCE_AT)
     }
 }
-
-// The sender of a message that the host posted, and the highest of all.
-pub const HOST: u8 = 16;
 
 // ---- the parts of an image
 

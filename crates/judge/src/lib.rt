@@ -99,7 +99,8 @@ fn highest_kind(version: u8) -> u8
     if version < 2 { 5 } else { 6 }
 }
 
-// Whether the fields ahead of the registers are in range, in a slot of an image with n instructions.
+// Whether the fields ahead of the registers are in range and the label within the clearance, in a slot of an image of this version
+// with n instructions.
 fn fields_in_range(version: u8, task: &[u8], slot: usize, n: usize) -> bool
     requires { ⌜ slot < 16 ⌝ }
     ensures { λ r. ⌜ r ≡ fieldsInRange version slot n (taskOf version (now (task .entry))) ⌝ }

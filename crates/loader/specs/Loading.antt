@@ -26,7 +26,7 @@ mailSet (suc k) b t = withMail k (messageOf (drop (messageSize * k) b) .sender) 
 abbrev pub labelsOf : List ℕ → List ℕ
 labelsOf b = decodeItems messageSize (λ m. messageOf m .label) (length b / messageSize) b
 
--- each is one
+-- each is at most 15
 abbrev pub LabelsFit : List ℕ → Type 0
 LabelsFit b = (i : ℕ) → i < length b / messageSize → getD (labelsOf b) i 0 ≤ highestLabel
 

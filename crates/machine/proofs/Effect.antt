@@ -1,5 +1,5 @@
 -- Laws of one task's outcome. A task that an observer sees does the same with its hidden messages left out (`outcome-view`);
--- whatever a task does goes to labels that its own flows to, and to slots of its own spare (`outcome-contained`).
+-- whatever a task does goes to labels that its own flows to, and to slots of its own spare, and its clearance stays (`outcome-contained`).
 use Prim.Native.Nat.{ℕ, suc, _+_, _≤_}
 use mathlib.Core.Path.{_≡_, refl}
 use mathlib.Core.Bool.{Bool, true}
@@ -26,7 +26,8 @@ abbrev pub viewOutcome : (ℕ → Bool) → Outcome → Outcome
 viewOutcome sees o = record { task = viewTask sees (o .task); action = o .action }
 
 module _ (mayFlow : ℕ → ℕ → Bool) where
-  -- a task t in slot s may become t′ and do this: send to labels that its own flows to, and split its spare for a child
+  -- a task t in slot s may become t′ and do this: send to labels that its own flows to, and split its spare for a child, which has its
+  -- clearance
   abbrev pub Allowed : ℕ → Task → Task → Action → Type 0
   Allowed s t t′ noAction = t .spare ≡ t′ .spare
   Allowed s t t′ (deliver j m) = (t .spare ≡ t′ .spare) × (mayFlow (t .label) (m .label) ≡ true)

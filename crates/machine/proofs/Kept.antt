@@ -12,11 +12,10 @@ use Rattle.machine.specs.State.{Message, Task, Slot, unused, used, State
 use Rattle.machine.specs.Effect.{Action, noAction, deliver, spawn, Outcome, outcome}
 use Rattle.machine.specs.Turn.{hasRoom, enqueue, perform, applied, step, turnBy, turnsBy, busyBy}
 use Rattle.machine.specs.Post.{hostMessage, post}
-use Rattle.machine.specs.Inner.{withVersion}
 use Rattle.machine.specs.Valid.{Valid}
 use Rattle.machine.proofs.Effect.{Allowed, Contained, outcome-contained}
 use Rattle.machine.proofs.Spare.{Spares, spawn-unused}
-use Rattle.machine.proofs.Valid.{valid-spares, turns-valid}
+use Rattle.machine.proofs.Valid.{valid-spares, withVersion, turns-valid}
 
 -- ---- version and program
 

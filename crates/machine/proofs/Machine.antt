@@ -10,8 +10,8 @@ use Rattle.machine.specs.Turn.{current, turnBy}
 use Rattle.machine.specs.Post.{post}
 use Rattle.machine.specs.Valid.{Valid}
 use Rattle.machine.proofs.Rules.{MessageFacts, SlotFacts, slot-facts}
-use Rattle.machine.specs.Inner.{withVersion}
 use Rattle.machine.specs.Machine.{turns, busy, view}
+use Rattle.machine.proofs.Valid.{withVersion}
 use Rattle.machine.proofs.Valid as Valid
 use Rattle.machine.proofs.View.{AllSeen, view-all}
 use Rattle.machine.proofs.Turn as Turn

@@ -29,7 +29,6 @@ use Rattle.machine.specs.Turn.{hasRoom, enqueue, perform, applied, succe
 use Rattle.machine.specs.Post.{hostMessage, post}
 use Rattle.machine.specs.View.{viewSlot, viewBy}
 use Rattle.machine.specs.Valid.{Valid}
-use Rattle.machine.specs.Inner.{withVersion}
 use Rattle.machine.proofs.Rules.{MessageFacts, MailboxFacts, five-kinds, six-kinds, ClearanceFacts, TaskFacts, SlotFacts, slot-facts, slot-valid, spares-free, spares-test}
 use Rattle.machine.proofs.Mailbox.{mailbox-keep, mailbox-without, mailbox-append, mailbox-nil, mailbox-64}
 use Rattle.machine.proofs.Search.{find-most}
@@ -282,6 +281,10 @@ slot-as-2 v n s (used t) f = record {
   words = f .words;
   mailbox = f .mailbox;
 }
+
+-- the state as one of version v
+abbrev pub withVersion : ℕ → State → State
+withVersion v state = record { version = v; program = state .program; turnSlot = state .turnSlot; slots = state .slots }
 
 pub valid-as-2 : (s : State) → Valid s → Valid (withVersion 2 s)
 valid-as-2 s ok = record {

@@ -1,10 +1,10 @@
 -- Definitions for contracts of functions that are no calls, which no claim and no call's promise reaches: the slots between which
--- all that is used, or can be, lies; and a state as one of another version.
+-- all that is used, or can be, lies.
 use Prim.Native.Nat.{ℕ, zero, suc, _+_, _≤_, _<_}
 use mathlib.Core.Bool.{not}
 use mathlib.Core.List.{List}
 use Rattle.wire.specs.Lists.{firstIndex}
-use Rattle.machine.specs.State.{Slot, unused, used, State, slotAt, isUnused}
+use Rattle.machine.specs.State.{Slot, unused, used, slotAt, isUnused}
 
 -- the lowest used slot; how many slots there are where none is used
 abbrev pub bottomOf : List Slot → ℕ
@@ -27,7 +27,3 @@ WithinSlot bottom top s (used t) = (bottom ≤ s) × (s + t .spare < top)
 
 abbrev pub Within : ℕ → ℕ → List Slot → Type 0
 Within bottom top ss = (s : ℕ) → WithinSlot bottom top s (slotAt ss s)
-
--- the state as one of version v: turns look at no version
-abbrev pub withVersion : ℕ → State → State
-withVersion v state = record { version = v; program = state .program; turnSlot = state .turnSlot; slots = state .slots }

@@ -1,5 +1,5 @@
 -- The image rules that tasks taken apart can break, as tests under the number that an image gets for breaking them, and the
--- states that keep them all. 6 and 7 have their tests elsewhere: `allLegal`, and that the turn slot is at most 15.
+-- states that keep them all. 4, 6 and 7 have their tests elsewhere: `isVersion`, `allLegal`, and that the turn slot is at most 15.
 use Prim.Native.Nat.{ℕ, _+_, _%_, _^_, _<_}
 use mathlib.Core.Path.{_≡_}
 use mathlib.Core.Bool.{Bool, true, _&&_, _||_}

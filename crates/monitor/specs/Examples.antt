@@ -106,10 +106,10 @@ backlog label = withMailbox (message 2 1 7 ∷ message 0 1 7 ∷ message 2 1 7 �
 abbrev pub raising : ℕ → List ℕ
 raising label = 0x07 ∷ label ∷ 0 ∷ 0 ∷ []
 
-abbrev pub raised : ℕ → ℕ → Task → State
-raised label turnSlot t = stateOfVersion 2 (raising label) turnSlot (one 0 t)
+abbrev pub withRaise : ℕ → ℕ → Task → State
+withRaise label turnSlot t = stateOfVersion 2 (raising label) turnSlot (one 0 t)
 
--- a task with label 1 and this clearance
+-- a task with label 1, this clearance and this spare
 abbrev pub helper : ℕ → ℕ → Task
 helper clearance spare = cleared 1 clearance spare 0
 
@@ -157,9 +157,9 @@ pub record Examples : Type 0 where
       × (turns 1 (state counting 0 (one 0 (withRegister 3 9 (task 0 0 0)))) ≡ state counting 1 (one 0 (next (withRegister 3 0 (task 0 0 0)))))
   -- U5: "A raise that would leave it stops the task with kind 6, changing nothing else; like kinds 2 to 5, kind 6 never runs again": 2 is
   -- outside the clearance 5, and 4 is in it; 16 turns on, slot 0 has had another turn
-  pub ceiling : (turns 1 (raised 2 0 (helper 5 0)) ≡ raised 2 1 (withKind 6 (helper 5 0)))
-      × (turns 17 (raised 2 0 (helper 5 0)) ≡ raised 2 1 (withKind 6 (helper 5 0)))
-      × (turns 1 (raised 4 0 (helper 5 0)) ≡ raised 4 1 (next (withLabel 5 (helper 5 0))))
+  pub ceiling : (turns 1 (withRaise 2 0 (helper 5 0)) ≡ withRaise 2 1 (withKind 6 (helper 5 0)))
+      × (turns 17 (withRaise 2 0 (helper 5 0)) ≡ withRaise 2 1 (withKind 6 (helper 5 0)))
+      × (turns 1 (withRaise 4 0 (helper 5 0)) ≡ withRaise 4 1 (next (withLabel 5 (helper 5 0))))
   -- "A child inherits the clearance."
   pub inherits : turns 1 (stateOfVersion 2 (sandbox 2) 0 (one 0 (helper 5 2)))
       ≡ stateOfVersion 2 (sandbox 2) 1 (two 0 (next (withRegister 0 1 (withSpare 0 (helper 5 2)))) 1 (helper 5 1))

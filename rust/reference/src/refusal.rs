@@ -17,7 +17,7 @@ pub enum Refusal {
     Instruction = 6,
     /// The turn slot is above 15.
     TurnSlot = 7,
-    /// A record length is neither 0 nor 37 + 6 × k, in version 2 38 + 6 × k, k at most 64.
+    /// A record length is neither 0 nor 37 + 6 × k (38 + 6 × k in version 2), k at most 64.
     RecordLength = 8,
     /// Kind, label, clearance or place is out of range, the label is no subset of the clearance, or slot + spare is
     /// above 15.

@@ -42,7 +42,7 @@ refusals! {
     ProgramLength = 5, "program length", "The program's length is no multiple of 4 from 4 to 1,024: 1 to 256 instructions.";
     Instruction = 6, "instruction", "An instruction isn't in the table, or has an operand outside it.";
     TurnSlot = 7, "turn slot", "The turn slot is above 15.";
-    RecordLength = 8, "record length", "A record's length is neither 0 nor 37 + 6 * k, in version 2 38 + 6 * k, k at most 64.";
+    RecordLength = 8, "record length", "A record's length is neither 0 nor 37 + 6 * k (38 + 6 * k in version 2), k at most 64.";
     TaskField = 9, "task field", "A task's kind, label, clearance or place is out of range, its label isn't within its clearance, or slot + spare is above 15.";
     Mail = 10, "mail", "A message's label is above 15 or its sender above 16, or five or more are of one label.";
     Tail = 11, "tail", "There are bytes after slot 15.";

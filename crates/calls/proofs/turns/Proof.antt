@@ -9,7 +9,7 @@ use denote.Ref.{now}
 use Rattle.wire.specs.Lists.{Bytes}
 use Rattle.wire.proofs.Lists.{IsByte, every-of}
 use Rattle.machine.specs.Limits.{turnLimit}
-use Rattle.machine.specs.Inner.{withVersion}
+use Rattle.machine.proofs.Valid.{withVersion}
 use Rattle.image.specs.Image.{stateOf}
 use Rattle.image.specs.Refusal.{imageNumber}
 use Rattle.snapshot.specs.Writing.{snapshotBytes}

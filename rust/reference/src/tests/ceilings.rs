@@ -94,7 +94,7 @@ fn kind_6_receives_nothing() {
 }
 
 #[test]
-fn kind_6_keeps_its_mailbox() {
+fn the_mail_of_kind_6_is_counted_like_that_of_a_live_task() {
     let image = town(&[END], 0, 0);
     let printed = looks(&image.bytes());
     let slot = |slot: usize| &printed[slot * 32..][..32];

@@ -154,7 +154,7 @@ fn a_clearance_comes_behind_the_records_length_and_end_and_ahead_of_its_mail() {
 /// A change that makes another fault in the image, and the number given where slot 3 has a fault in its clearance, too.
 type Other = (fn(&mut Image), u8);
 
-const OTHERS: [Other; 11] = [
+const OTHERS: [Other; 10] = [
     (|image| image.first_byte = Some(3), 4),
     (|image| image.program_length = Some(3), 5),
     (|image| image.program[1] = [14, 0, 0, 0], 6),
@@ -162,7 +162,6 @@ const OTHERS: [Other; 11] = [
     (|image| image.slots[2] = Some(Task { mail: mail([(16, 0, 0)]), ..Task::default() }), 10),
     (|image| image.record_lengths[4] = Some(37), 9),
     (|image| image.cut = Some(image.bytes().len() - 1), 9),
-    (|image| image.task(4).kind = 7, 9),
     (|image| image.task(4).mail = mail([(16, 0, 0)]), 9),
     (|image| image.tail = vec![0], 9),
     (|image| image.task(3).spare = 1, 9),
@@ -280,14 +279,11 @@ fn views_and_posts_keep_the_version() {
 }
 
 #[test]
-fn the_longest_images_are_accepted() {
-    for (mut image, length) in in_versions(&image(&[END; 256], &[])).into_iter().zip([7796, 7812]) {
+fn the_longest_images_are_printed() {
+    for mut image in in_versions(&image(&[END; 256], &[])) {
         image.slots = [(); SLOTS].map(|()| Some(Task { mail: messages(64), ..Task::default() }));
         let bytes = image.bytes();
-        assert_eq!(bytes.len(), length);
         let mut out = [UNTOUCHED; ROOM];
-        assert_eq!(rewrite(&bytes, &mut out).number, 0);
-        assert_eq!(written(length, &out), bytes);
         let length = sheet(&bytes, 15, &mut out).length;
         assert_eq!(slotsheet(&[vec![15], bytes].concat()), out[..length]);
     }
