@@ -5,6 +5,7 @@
 
 pub mod instructions;
 pub mod next;
+pub mod records;
 
 /// The number of slots.
 pub const SLOTS: usize = 16;

@@ -9,9 +9,14 @@ fn number(bytes: &[u8], at: usize) -> usize {
     usize::from(u16::from_be_bytes([bytes[at], bytes[at + 1]]))
 }
 
+/// Where the turn slot stands, right ahead of the slots.
+pub fn turn_slot_at(image: &[u8]) -> usize {
+    PROGRAM_AT + number(image, 1)
+}
+
 /// The turn slot.
 pub fn turn_slot(image: &[u8]) -> u8 {
-    image[PROGRAM_AT + number(image, 1)]
+    image[turn_slot_at(image)]
 }
 
 /// Where the next instruction of the task with that record stands in the image; none where its place is behind the last.
