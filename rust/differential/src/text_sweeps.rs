@@ -21,6 +21,9 @@ const BYTES: [u8; 29] = [
     b's', b'z', b'`', b'{', 127, 128, 138, 160, 176, 255,
 ];
 
+/// The first code behind the table.
+const NO_CODE: u8 = TABLE.len() as u8;
+
 /// All sweeps.
 pub fn run(comparison: &mut Comparison, rng: &mut Rng) -> Outcome {
     accepted(comparison, rng, &[[SANDBOX, 7, 255, 15]; PROGRAM_MAX])?;
@@ -112,7 +115,7 @@ fn each_byte(comparison: &mut Comparison, rng: &mut Rng, program: &[u8]) -> Outc
     let n = (program.len() / 4) as u8;
     for (at, &byte) in program.iter().enumerate() {
         disassemble(comparison, rng, &program[..at])?;
-        for value in [0, 1, 7, 8, 9, 10, 12, 13, 15, 16, 17, 99, 100, 255, byte ^ 128, n - 1, n, n + 1] {
+        for value in [0, 1, 7, 8, 9, 10, 12, 13, NO_CODE, 15, 16, 17, 99, 100, 255, byte ^ 128, n - 1, n, n + 1] {
             let mut changed = program.to_vec();
             changed[at] = value;
             disassemble(comparison, rng, &changed)?;
