@@ -8,7 +8,8 @@ use crate::damage::{self, FAULTS};
 use crate::images::{self, MAIL_PER_LABEL};
 use crate::report::{Fact, Mismatch, Outcome};
 use crate::rng::Rng;
-use layout::Image;
+use layout::instructions::TABLE;
+use layout::{Image, VERSIONS};
 use rithennaw::{IMAGE_MAX, TURNS_MAX};
 
 /// Seeds from one sweep over the bytes of an image to the next, and from one call with about 1,000,000 turns to the
@@ -29,7 +30,9 @@ pub fn run(comparison: &mut Comparison, seed: u64) -> Outcome {
         turn_limit(comparison, &image.bytes())?;
     }
     if seed % SWEEP_EVERY == 0 {
-        sweep(comparison, rng)?;
+        // The versions take turns.
+        let version = VERSIONS[(seed / SWEEP_EVERY) as usize % VERSIONS.len()];
+        sweep(comparison, rng, version)?;
     }
     Ok(())
 }
@@ -123,17 +126,18 @@ fn turn_limit(comparison: &mut Comparison, image: &[u8]) -> Outcome {
     Ok(())
 }
 
-/// An image of middle length, cut at every byte, and with every byte in turn next to a limit.
-fn sweep(comparison: &mut Comparison, rng: &mut Rng) -> Outcome {
+/// An image of that version and of middle length, cut at every byte, and with every byte in turn next to a limit.
+fn sweep(comparison: &mut Comparison, rng: &mut Rng, version: u8) -> Outcome {
     let mut image = images::accepted(rng).bytes();
-    while !(100..=400).contains(&image.len()) {
+    while image[0] != version || !(100..=400).contains(&image.len()) {
         image = images::accepted(rng).bytes();
     }
     for at in 0..image.len() {
         each_call(comparison, rng, &image[..at])?;
         let mut changed = image.clone();
         let byte = image[at];
-        for value in [0, 1, 5, 6, 7, 8, 12, 13, 15, 16, 17, 255, byte.wrapping_add(1), byte.wrapping_sub(1)] {
+        let near = [byte.wrapping_add(1), byte.wrapping_sub(1)];
+        for value in [0, 1, 2, 3, 5, 6, 7, 8, 12, 13, TABLE.len() as u8, 15, 16, 17, 255].into_iter().chain(near) {
             changed[at] = value;
             comparison.check(&changed)?;
             let calls = calls(rng);

@@ -1,6 +1,7 @@
 //! One call made of two implementations: what they tell, every byte of the output and around it, and what they read.
 
 use crate::calls::{Answer, Call, Implementation};
+use crate::ceilings;
 use crate::posts::{self, PostOutcome};
 use crate::report::{hex, Mismatch, Outcome, RecordOutcome, Tally};
 use crate::rng::Rng;
@@ -70,6 +71,9 @@ impl Comparison {
         self.tally.call(call, first.answer);
         posted.into_iter().for_each(|outcome| self.tally.post(outcome));
         let bytes = first.output[AROUND..][..first.answer.length].to_vec();
+        if let (Call::Turns(_), 0) = (call, first.answer.number) {
+            ceilings::facts(input, &bytes).into_iter().for_each(|fact| self.tally.fact(fact));
+        }
         Ok(Agreed { answer: first.answer, bytes })
     }
 
@@ -100,7 +104,7 @@ impl Comparison {
     /// Asks both for the image's number.
     pub fn check(&mut self, image: &[u8]) -> Result<u8, Mismatch> {
         let number = self.ask("Check", image, |implementation, image| (implementation.check)(image))?;
-        self.tally.check(number);
+        self.tally.check(image, number);
         Ok(number)
     }
 
@@ -152,7 +156,7 @@ fn make(implementation: Implementation, call: Call, input: &[u8], before: &[u8])
 fn post_outcome(call: Call, input: &[u8], answer: Answer) -> Option<PostOutcome> {
     match call {
         Call::Post(post) if answer.number == 0 => {
-            Some(posts::outcome(&input[reference::record(input, post.slot)], post.label))
+            Some(posts::outcome(input, reference::record(input, post.slot), post.label))
         }
         _ => None,
     }

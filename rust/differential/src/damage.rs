@@ -1,11 +1,11 @@
-//! Ways to damage an accepted image, a field of the layout at a time, and the number that each leads to.
+//! Ways to damage an accepted image of either version, a field of the layout at a time, and the number that each leads to.
 
-use crate::images::{MAIL_MAX, MAIL_PER_LABEL};
+use crate::images::{last_kind, MAIL_MAX, MAIL_PER_LABEL};
 use crate::instructions::illegal;
 use crate::programs::PROGRAM_MAX;
 use crate::rng::Rng;
 use layout::instructions::TABLE;
-use layout::{Image, Message, Task, MESSAGE_LENGTH, SLOTS, TASK_LENGTH};
+use layout::{clearance_length, task_length, Image, Message, Task, MESSAGE_LENGTH, SLOTS, VERSIONS};
 use rithennaw::HOST;
 
 /// A way to damage what a call reads: an image, or a text.
@@ -22,7 +22,7 @@ pub const fn fault<T>(number: u8, name: &'static str, apply: fn(&mut Rng, &mut T
 }
 
 /// Every fault of an image.
-pub const FAULTS: [Fault<Image>; 28] = [
+pub const FAULTS: [Fault<Image>; 32] = [
     fault(3, "cut", cut),
     fault(3, "cut by one byte", cut_by_one),
     fault(4, "version", version),
@@ -35,12 +35,16 @@ pub const FAULTS: [Fault<Image>; 28] = [
     fault(6, "operand b", |rng, image| operand(rng, image, 1)),
     fault(6, "operand c", |rng, image| operand(rng, image, 2)),
     fault(7, "turn slot", turn_slot),
-    fault(8, "record length below 37", |rng, image| record_length(rng, image, &[1, 2, 36])),
+    fault(8, "record length below that of no messages", record_length_below),
     fault(8, "record length between two numbers of messages", record_length_between),
-    fault(8, "record length above 421", |rng, image| record_length(rng, image, &[427, 433, 65_533, 65_535])),
+    fault(8, "record length of more than 64 messages", record_length_above),
+    fault(8, "record length of the other version", record_length_of_other_version),
+    fault(8, "records of the other version", records_of_other_version),
     fault(8, "65 messages", messages_65),
-    fault(9, "kind", |rng, image| task(rng, image, |rng, task| task.kind = rng.pick(&[0, 6, 255]))),
+    fault(9, "kind", kind),
     fault(9, "label", |rng, image| task(rng, image, |rng, task| task.label = above(rng, 15))),
+    fault(9, "clearance above 15", clearance_above_15),
+    fault(9, "clearance that lacks an owner of the label", clearance_without_owner),
     fault(9, "spare beyond slot 15", spare_beyond),
     fault(9, "place", place),
     fault(10, "message label", |rng, image| message(rng, image, |rng, message| message.label = above(rng, 15))),
@@ -79,8 +83,7 @@ fn cut_by_one(_: &mut Rng, image: &mut Image) -> bool {
 }
 
 fn version(rng: &mut Rng, image: &mut Image) -> bool {
-    image.version = rng.pick(&[0, 2, 255]);
-    true
+    set(&mut image.first_byte, rng.pick(&[0, 3, 255]))
 }
 
 fn program_length_between(rng: &mut Rng, image: &mut Image) -> bool {
@@ -122,10 +125,43 @@ fn record_length(rng: &mut Rng, image: &mut Image, lengths: &[u16]) -> bool {
     set(&mut image.record_lengths[rng.below(SLOTS)], rng.pick(lengths))
 }
 
+/// The length of a record with so many messages in this version.
+fn length_of(version: u8, messages: usize) -> u16 {
+    (task_length(version) + MESSAGE_LENGTH * messages) as u16
+}
+
+fn record_length_below(rng: &mut Rng, image: &mut Image) -> bool {
+    let least = length_of(image.version, 0);
+    record_length(rng, image, &[1, 2, least - 1])
+}
+
 fn record_length_between(rng: &mut Rng, image: &mut Image) -> bool {
-    let messages = rng.below(MAIL_MAX + 1);
-    let length = TASK_LENGTH + MESSAGE_LENGTH * messages + rng.between(1, MESSAGE_LENGTH - 1);
-    record_length(rng, image, &[length as u16])
+    let length = length_of(image.version, rng.below(MAIL_MAX + 1)) + rng.between(1, MESSAGE_LENGTH - 1) as u16;
+    record_length(rng, image, &[length])
+}
+
+/// Lengths of numbers of messages, the last one the largest that there is room for, and the largest length.
+fn record_length_above(rng: &mut Rng, image: &mut Image) -> bool {
+    let [near, next, last] = [MAIL_MAX + 1, MAIL_MAX + 2, 10_916].map(|messages| length_of(image.version, messages));
+    record_length(rng, image, &[near, next, last, 65_535])
+}
+
+/// A version that the image is not of.
+fn other_version(rng: &mut Rng, image: &Image) -> u8 {
+    let others: Vec<u8> = VERSIONS.into_iter().filter(|&version| version != image.version).collect();
+    rng.pick(&others)
+}
+
+fn record_length_of_other_version(rng: &mut Rng, image: &mut Image) -> bool {
+    let length = length_of(other_version(rng, image), rng.below(MAIL_MAX + 1));
+    record_length(rng, image, &[length])
+}
+
+/// Puts the other version's number ahead of an image that has tasks. No length but 0 is one of both versions, so it is the
+/// first task's that is wrong; an image without tasks would be accepted in the other version.
+fn records_of_other_version(rng: &mut Rng, image: &mut Image) -> bool {
+    let other = other_version(rng, image);
+    !image.used().is_empty() && set(&mut image.first_byte, other)
 }
 
 /// Changes a task of the image.
@@ -146,6 +182,31 @@ fn messages_65(rng: &mut Rng, image: &mut Image) -> bool {
         let more = labels.take(MAIL_MAX + 1 - task.mail.len());
         task.mail.extend(more.map(|label| Message { label, sender: 0, value: 0 }));
     })
+}
+
+/// A kind next to those that there are, which in version 1 is one of version 2, or another.
+fn kind(rng: &mut Rng, image: &mut Image) -> bool {
+    let next = last_kind(image.version) + 1;
+    task(rng, image, |rng, task| task.kind = rng.pick(&[0, next, 255]))
+}
+
+/// Gives a clearance bits that are no owner's, beside those that it has.
+fn clearance_above_15(rng: &mut Rng, image: &mut Image) -> bool {
+    clearance_length(image.version) > 0
+        && task(rng, image, |rng, task| task.clearance |= rng.pick(&[0x10, 0x20, 0x80, 0xf0]))
+}
+
+/// Takes an owner of its label from the clearance of a task.
+fn clearance_without_owner(rng: &mut Rng, image: &mut Image) -> bool {
+    if clearance_length(image.version) == 0 {
+        return false;
+    }
+    let mut labelled: Vec<_> = image.slots.iter_mut().flatten().filter(|task| task.label & 15 != 0).collect();
+    let at = rng.below(labelled.len());
+    let Some(task) = labelled.get_mut(at) else { return false };
+    let owners: Vec<u8> = [1, 2, 4, 8].into_iter().filter(|owner| task.label & owner != 0).collect();
+    task.clearance &= !rng.pick(&owners);
+    true
 }
 
 fn spare_beyond(rng: &mut Rng, image: &mut Image) -> bool {
@@ -231,7 +292,8 @@ pub fn flip(rng: &mut Rng, bytes: &mut [u8]) {
 pub fn garbage(rng: &mut Rng) -> Vec<u8> {
     let mut bytes = vec![0; rng.pick(&[0, 1, 2, 3, 4, 8, 40, 100, 1_000, 9_000])];
     rng.fill(&mut bytes);
-    let starts: [&[u8]; 4] = [&[], &[1], &[1, 0, 4], &[1, 0, 4, 0, 0, 0, 0, 0]];
+    let version = rng.pick(&VERSIONS);
+    let starts: [&[u8]; 4] = [&[], &[version], &[version, 0, 4], &[version, 0, 4, 0, 0, 0, 0, 0]];
     let start = rng.pick(&starts);
     let length = start.len().min(bytes.len());
     bytes[..length].copy_from_slice(&start[..length]);

@@ -1,9 +1,9 @@
-//! Images that keep every rule, made to do much: few labels, registers that hold slot numbers, full mailboxes, large
-//! spares.
+//! Images of both versions that keep every rule, made to do much: few labels, clearances that raises leave, registers that
+//! hold slot numbers, full mailboxes, large spares.
 
 use crate::programs::{self, PROGRAM_MAX};
 use crate::rng::Rng;
-use layout::{Image, Message, Task, SLOTS};
+use layout::{clearance_length, Image, Message, Task, SLOTS, VERSIONS};
 use rithennaw::HOST;
 
 /// The most messages in a mailbox, and the most of one label.
@@ -51,16 +51,32 @@ pub fn mail(rng: &mut Rng, labels: &[u8]) -> Vec<Message> {
     mail
 }
 
-/// A task of a program of `n` instructions, most often live, with no spare and no mail.
-pub fn task(rng: &mut Rng, n: usize, label: u8) -> Task {
+/// The last kind of a task in this version: 6 where there are clearances, else 5.
+pub fn last_kind(version: u8) -> u8 {
+    5 + clearance_length(version) as u8
+}
+
+/// A clearance that a task of that label may have: the label alone, all owners, or any.
+fn clearance(rng: &mut Rng, label: u8) -> u8 {
+    match rng.below(6) {
+        0 => label,
+        1 => 15,
+        _ => label | rng.byte_below(16),
+    }
+}
+
+/// A task of the image, most often live, with no spare and no mail.
+pub fn task(rng: &mut Rng, image: &Image, label: u8) -> Task {
+    let n = image.program.len();
     let place = match rng.below(12) {
         0 => n,
         1..=3 => 0,
         _ => rng.below(n),
     };
     Task {
-        kind: if rng.one_in(5) { rng.between(2, 5) as u8 } else { 1 },
+        kind: if rng.one_in(5) { rng.between(2, last_kind(image.version).into()) as u8 } else { 1 },
         label,
+        clearance: if clearance_length(image.version) == 0 { 15 } else { clearance(rng, label) },
         place: place as u16,
         registers: std::array::from_fn(|_| value(rng)),
         ..Task::default()
@@ -79,7 +95,7 @@ pub fn some_slots(rng: &mut Rng, slots: &[usize]) -> Vec<usize> {
 pub fn add_tasks(rng: &mut Rng, image: &mut Image, slots: &[usize], labels: &[u8], mail_labels: &[u8]) {
     for &slot in slots {
         let label = rng.pick(labels);
-        let mut task = task(rng, image.program.len(), label);
+        let mut task = task(rng, image, label);
         task.mail = mail(rng, mail_labels);
         image.slots[slot] = Some(task);
     }
@@ -97,27 +113,27 @@ pub fn give_spares(rng: &mut Rng, image: &mut Image, slots: &[usize], closed: &[
     }
 }
 
-/// The longest image: 256 instructions, and 64 messages for each of sixteen tasks.
-pub fn longest(rng: &mut Rng) -> Image {
-    let mut image = Image::new(programs::of_length(rng, PROGRAM_MAX, &LABELS));
-    for slot in &mut image.slots {
+/// The longest image of a version: 256 instructions, and 64 messages for each of sixteen tasks.
+pub fn longest(rng: &mut Rng, version: u8) -> Image {
+    let mut image = Image { version, ..Image::new(programs::of_length(rng, PROGRAM_MAX, &LABELS)) };
+    for slot in 0..SLOTS {
         let label = rng.byte_below(16);
-        *slot = Some(Task { mail: all_mail(rng, &LABELS), ..task(rng, PROGRAM_MAX, label) });
+        image.slots[slot] = Some(Task { mail: all_mail(rng, &LABELS), ..task(rng, &image, label) });
     }
     image
 }
 
-/// The shortest image: one instruction and no task.
-pub fn shortest(rng: &mut Rng) -> Image {
-    Image::new(programs::of_length(rng, 1, &LABELS))
+/// The shortest image of a version: one instruction and no task.
+fn shortest(rng: &mut Rng, version: u8) -> Image {
+    Image { version, ..Image::new(programs::of_length(rng, 1, &LABELS)) }
 }
 
 /// An image of the usual kind.
-fn usual(rng: &mut Rng) -> Image {
+fn usual(rng: &mut Rng, version: u8) -> Image {
     let mut labels = LABELS.to_vec();
     rng.shuffle(&mut labels);
     labels.truncate(rng.pick(&[1, 2, 3, 16]));
-    let mut image = Image::new(programs::program(rng, &labels));
+    let mut image = Image { version, ..Image::new(programs::program(rng, &labels)) };
     image.turn_slot = rng.byte_below(16);
     let every: Vec<usize> = (0..SLOTS).collect();
     let used = some_slots(rng, &every);
@@ -128,9 +144,10 @@ fn usual(rng: &mut Rng) -> Image {
 
 /// An image that is accepted.
 pub fn accepted(rng: &mut Rng) -> Image {
+    let version = rng.pick(&VERSIONS);
     match rng.below(40) {
-        0 => longest(rng),
-        1 => shortest(rng),
-        _ => usual(rng),
+        0 => longest(rng, version),
+        1 => shortest(rng, version),
+        _ => usual(rng, version),
     }
 }

@@ -3,22 +3,33 @@
 
 use crate::damage::FAULTS;
 use crate::images::{self, MAIL_MAX, MAIL_PER_LABEL};
-use crate::mailboxes::{mailboxes, IMAGES};
+use crate::mailboxes::{mailboxes, IMAGES, ROUND};
 use crate::process;
 use crate::report::{hex, Mismatch};
 use crate::rng::Rng;
-use layout::SLOTS;
+use crate::versions::ByVersion;
+use layout::{SLOTS, VERSIONS};
 use std::ffi::OsStr;
 use std::fmt;
 
 /// Images of the usual kind, with unused slots.
 const USUAL: u64 = 20;
 
+/// Seeds within which each fault finds its place.
+const SEEDS: u64 = 20;
+
+/// The least number of accepted images of each version.
+const ACCEPTED_MIN: u64 = 100;
+
+/// The least number of refused ones: each fault in each version, but for the two of clearances, which version 1 has not.
+const REFUSED_MIN: u64 = (VERSIONS.len() * FAULTS.len() - 2) as u64;
+
 /// Counts of what was told, by how many messages were looked at: where there was room, and where the fourth was met.
 pub struct LooksTally {
     room: [u64; MAIL_MAX + 1],
     fourth: [u64; MAIL_MAX + 1],
     unused: u64,
+    accepted: ByVersion,
     refused: u64,
 }
 
@@ -36,7 +47,10 @@ pub fn run(tally: &mut LooksTally, program: &OsStr, input: &[u8]) -> Result<(), 
         let [printed, expected] = [printed, expected].map(|bytes| hex(&bytes));
         return Err(Mismatch(format!("lookprobe, input {}\nprints\n{printed}\nnot\n{expected}", hex(input))));
     }
-    tally.refused += u64::from(printed.is_empty());
+    match printed.is_empty() {
+        true => tally.refused += 1,
+        false => tally.accepted.note(input[0]),
+    }
     for told in printed.chunks_exact(2) {
         match (told[0], told[1]) {
             (0, 0) => tally.unused += 1,
@@ -47,18 +61,24 @@ pub fn run(tally: &mut LooksTally, program: &OsStr, input: &[u8]) -> Result<(), 
     Ok(())
 }
 
-/// An image with each fault, of which nothing is told. Its first mailbox is full and the others nearly empty, so that each
-/// fault finds its place.
+/// Images of both versions with each fault, of which nothing is told. The first mailbox is full and the others nearly empty,
+/// so that there is a place for each fault.
 fn refused() -> impl Iterator<Item = Vec<u8>> {
-    FAULTS.iter().zip(0..).filter_map(|(fault, seed)| {
-        let mut image = mailboxes(MAIL_MAX / SLOTS);
-        (fault.apply)(&mut Rng::new(seed), &mut image).then(|| image.bytes())
+    let images = (0..VERSIONS.len()).map(|round| mailboxes(MAIL_MAX / SLOTS + round * ROUND));
+    images.flat_map(|image| {
+        FAULTS.iter().filter_map(move |fault| {
+            (0..SEEDS).find_map(|seed| {
+                let mut image = image.clone();
+                (fault.apply)(&mut Rng::new(seed), &mut image).then(|| image.bytes())
+            })
+        })
     })
 }
 
 impl Default for LooksTally {
     fn default() -> LooksTally {
-        LooksTally { room: [0; MAIL_MAX + 1], fourth: [0; MAIL_MAX + 1], unused: 0, refused: 0 }
+        let counts = [0; MAIL_MAX + 1];
+        LooksTally { room: counts, fourth: counts, unused: 0, accepted: ByVersion::default(), refused: 0 }
     }
 }
 
@@ -69,10 +89,12 @@ impl LooksTally {
         let room = (0..MAIL_MAX).filter(|&looked| self.room[looked] == 0);
         let fourth = (MAIL_PER_LABEL..=MAIL_MAX).filter(|&looked| self.fourth[looked] == 0);
         let unused = (self.unused == 0).then(|| never("of an unused slot"));
-        let refused = (self.refused < FAULTS.len() as u64).then(|| never("nothing, for each fault"));
+        let accepted = self.accepted.shortfalls("lookprobe, accepted images", ACCEPTED_MIN);
+        let refused = (self.refused < REFUSED_MIN).then(|| never("nothing, for each fault"));
         room.map(|looked| never(&format!("room after {looked} messages")))
             .chain(fourth.map(|looked| never(&format!("the fourth after {looked} messages"))))
             .chain(unused)
+            .chain(accepted)
             .chain(refused)
             .collect()
     }
@@ -81,6 +103,10 @@ impl LooksTally {
 impl fmt::Display for LooksTally {
     fn fmt(&self, f: &mut fmt::Formatter<'_>) -> fmt::Result {
         let [room, fourth] = [self.room, self.fourth].map(|counts| counts.iter().sum::<u64>());
-        write!(f, "lookprobe: room {room}, the fourth met {fourth}, in {} refused images nothing", self.refused)
+        let LooksTally { accepted, refused, .. } = self;
+        write!(
+            f,
+            "lookprobe: room {room}, the fourth met {fourth} in images, {accepted}; in {refused} refused ones nothing"
+        )
     }
 }

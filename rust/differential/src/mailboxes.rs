@@ -3,19 +3,24 @@
 use crate::images::{self, LABELS, MAIL_MAX, MAIL_PER_LABEL};
 use crate::programs;
 use crate::rng::Rng;
-use layout::{Image, Message, Task, SLOTS};
+use layout::{Image, Message, Task, SLOTS, VERSIONS};
 
-/// The number of images. They have a task in each slot, and of each length, 0 to 64, 64 mailboxes.
-pub const IMAGES: usize = 4 * (MAIL_MAX + 1);
+/// After so many images all lengths, 0 to 64, have come as often, and the lengths begin again.
+pub const ROUND: usize = MAIL_MAX + 1;
 
-/// Sixteen tasks of any kind, each with a mailbox one message longer than the one before it, round and round.
+/// The number of images. They have a task in each slot, and of each length 64 mailboxes, half of them in each version.
+pub const IMAGES: usize = 4 * ROUND;
+
+/// Sixteen tasks of any kind, each with a mailbox one message longer than the one before it, round and round. The versions
+/// take turns, a round each.
 pub fn mailboxes(number: usize) -> Image {
     let rng = &mut Rng::new(number as u64);
-    let mut image = Image::new(programs::program(rng, &LABELS));
+    let version = VERSIONS[number / ROUND % VERSIONS.len()];
+    let mut image = Image { version, ..Image::new(programs::program(rng, &LABELS)) };
     for slot in 0..SLOTS {
         let label = rng.pick(&LABELS);
-        let task = images::task(rng, image.program.len(), label);
-        let length = (SLOTS * number + slot) % (MAIL_MAX + 1);
+        let task = images::task(rng, &image, label);
+        let length = (SLOTS * number + slot) % ROUND;
         image.slots[slot] = Some(Task { mail: mail(rng, length), ..task });
     }
     image

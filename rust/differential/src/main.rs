@@ -8,11 +8,11 @@ use differential::backlogs::BacklogTally;
 use differential::calls::BOTH;
 use differential::compare::Comparison;
 use differential::looks::LooksTally;
-use differential::mailboxes::IMAGES;
+use differential::raises::RaiseTally;
 use differential::report::Mismatch;
 use differential::secrecy_report::SecrecyTally;
 use differential::slotsheet::SlotsheetTally;
-use differential::{backlogs, cases, looks, secrecy, slotsheet, text_cases};
+use differential::{backlogs, cases, looks, mailboxes, raises, secrecy, slotsheet, text_cases};
 use std::env;
 use std::ffi::OsString;
 use std::process::ExitCode;
@@ -72,8 +72,12 @@ fn run(options: &Options) -> bool {
         mismatches.note(secrecy::run(&mut secrecy_tally, &BOTH, seed));
     }
     let mut backlog_tally = BacklogTally::default();
-    for number in 0..IMAGES {
+    for number in 0..mailboxes::IMAGES {
         mismatches.note(backlogs::run(&mut comparison, &mut backlog_tally, number));
+    }
+    let mut raise_tally = RaiseTally::default();
+    for number in 0..raises::IMAGES {
+        mismatches.note(raises::run(&mut comparison, &mut raise_tally, number));
     }
     let mut slotsheet_tally = SlotsheetTally::default();
     for input in slotsheet::inputs() {
@@ -84,9 +88,9 @@ fn run(options: &Options) -> bool {
         mismatches.note(looks::run(&mut looks_tally, &options.lookprobe, &input));
     }
     let tally = comparison.tally;
-    println!("{tally}\n{secrecy_tally}\n{backlog_tally}\n{slotsheet_tally}\n{looks_tally}");
-    let calls = [tally.shortfalls(), secrecy_tally.shortfalls(), backlog_tally.shortfalls()].concat();
-    let missing = [calls, slotsheet_tally.shortfalls(), looks_tally.shortfalls()].concat();
+    println!("{tally}\n{secrecy_tally}\n{backlog_tally}\n{raise_tally}\n{slotsheet_tally}\n{looks_tally}");
+    let calls = [tally.shortfalls(), secrecy_tally.shortfalls(), backlog_tally.shortfalls(), raise_tally.shortfalls()];
+    let missing = [calls.concat(), slotsheet_tally.shortfalls(), looks_tally.shortfalls()].concat();
     missing.iter().for_each(|missing| eprintln!("differential: {missing}"));
     println!("{} calls compared, {} mismatches", tally.compared, mismatches.0);
     mismatches.0 == 0 && missing.is_empty()

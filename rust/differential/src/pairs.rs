@@ -1,9 +1,9 @@
-//! Pairs of accepted images that show an observer the same and differ in hidden tasks and hidden mail.
+//! Pairs of accepted images of one version that show an observer the same and differ in hidden tasks and hidden mail.
 
 use crate::images::{self, LABELS};
 use crate::programs;
 use crate::rng::Rng;
-use layout::{Image, SLOTS};
+use layout::{Image, SLOTS, VERSIONS};
 
 /// Whether each bit of `label` is also in `observer`.
 pub fn flows(label: u8, observer: u8) -> bool {
@@ -15,7 +15,7 @@ pub fn pair(rng: &mut Rng, observer: u8) -> [Image; 2] {
     let (visible, hidden): (Vec<u8>, Vec<u8>) = LABELS.iter().partition(|&&label| flows(label, observer));
     let hidden_or_any = if hidden.is_empty() { &visible } else { &hidden };
     let labels = [rng.pick(&visible), rng.pick(&visible), rng.pick(hidden_or_any)];
-    let mut shown = Image::new(programs::program(rng, &labels));
+    let mut shown = Image { version: rng.pick(&VERSIONS), ..Image::new(programs::program(rng, &labels)) };
     shown.turn_slot = rng.byte_below(16);
     let every: Vec<usize> = (0..SLOTS).collect();
     let seen = images::some_slots(rng, &every);

@@ -10,17 +10,18 @@ use layout::Instruction;
 /// The longest program, in instructions.
 pub const PROGRAM_MAX: usize = 256;
 
-/// Codes by how often a random instruction has them: those that stop or raise a task less often than the others.
+/// Codes by how often a random instruction has them: those that end or raise a task less often than sends and receipts.
 const CODES: &[u8] = &[
-    END, SET, SET, COPY, ADD, ADD, SUBTRACT, GO, GO, ZERO, ZERO, RAISE, SEND, SEND, SEND, SEND, TAKE, TAKE, POLL, POLL,
-    POLL, SANDBOX, SANDBOX, SELF, COUNT, COUNT,
+    END, SET, SET, COPY, ADD, ADD, SUBTRACT, GO, GO, ZERO, ZERO, RAISE, RAISE, SEND, SEND, SEND, SEND, TAKE, TAKE,
+    POLL, POLL, POLL, SANDBOX, SANDBOX, SELF, COUNT, COUNT,
 ];
 
 /// A legal instruction of a program of `n`. Its labels are often of `labels` or 15, so that some sends pass and some
-/// do not.
+/// do not, and those of raises often one owner's, which clearances admit more often than all.
 fn random_instruction(rng: &mut Rng, n: usize, labels: &[u8]) -> Instruction {
     let code = rng.pick(CODES);
     let [a, b, c] = TABLE[usize::from(code)].operands.map(|operand| match operand {
+        Operand::Label if code == RAISE && rng.one_in(2) => owner(rng),
         Operand::Label if rng.one_in(4) => 15,
         Operand::Label if rng.one_in(2) => rng.pick(labels),
         Operand::Size if rng.one_in(2) => rng.pick(&[1, 2]),
@@ -30,9 +31,15 @@ fn random_instruction(rng: &mut Rng, n: usize, labels: &[u8]) -> Instruction {
     [code, a, b, c]
 }
 
+/// The label of an owner.
+fn owner(rng: &mut Rng) -> u8 {
+    rng.pick(&[1, 2, 4, 8])
+}
+
 /// A fragment that begins at place `at`. Register 1 has the slot to send to and register 2 a value.
 fn fragment(rng: &mut Rng, at: u8, label: u8, size: u8) -> Vec<Instruction> {
-    match rng.below(9) {
+    let (owner, other) = (owner(rng), owner(rng));
+    match rng.below(13) {
         // Sends to every slot, and on to slots that there are not.
         0 => vec![[SET, 7, 0, 1], [SEND, 1, label, 2], [ADD, 1, 1, 7], [GO, at + 1, 0, 0]],
         // Sends back what it receives; sends its own value where there is nothing.
@@ -49,6 +56,12 @@ fn fragment(rng: &mut Rng, at: u8, label: u8, size: u8) -> Vec<Instruction> {
         6 => vec![[SET, 7, 0, 1], [SUBTRACT, 2, 2, 7], [ZERO, 2, at + 4, 0], [GO, at + 1, 0, 0], [END, 0, 0, 0]],
         // Tells how many messages it may receive, receives one and begins again.
         7 => vec![[COUNT, 3, 0, 0], [SEND, 1, label, 3], [POLL, 3, 4, at], [GO, at, 0, 0]],
+        // Raises its label by an owner, and by another once it has received something.
+        8..=9 => vec![[RAISE, owner, 0, 0], [SEND, 1, 15, 2], [POLL, 3, 4, at], [RAISE, other, 0, 0], [GO, at, 0, 0]],
+        // Makes a task that raises its label by an owner, and raises its own by another.
+        10..=11 => {
+            vec![[SANDBOX, 1, at + 3, size], [RAISE, other, 0, 0], [GO, at, 0, 0], [RAISE, owner, 0, 0], [GO, at, 0, 0]]
+        }
         // Sends its own label and slot about.
         _ => vec![[SELF, 3, 2, 0], [SEND, 1, label, 3], [ADD, 1, 1, 2], [GO, at, 0, 0]],
     }

@@ -2,6 +2,7 @@
 
 use crate::calls::{Answer, Call, Post};
 use crate::posts::PostOutcome;
+use layout::VERSIONS;
 use std::fmt;
 
 /// The least number of calls in a run.
@@ -16,19 +17,21 @@ const LONG_RUN: u64 = 100_000;
 /// Whether a call may tell a number.
 type MayTell = fn(usize) -> bool;
 
-/// The calls that tell a number.
-const CALLS: [(&str, MayTell); 8] = [
+/// The calls that tell a number, the check by the version of its image.
+const CALLS: [(&str, MayTell); 10] = [
     ("rewrite", |number| matches!(number, 0 | 3..=13)),
     ("turns", |number| matches!(number, 0 | 2..=13)),
     ("post", |number| matches!(number, 0 | 3..=15)),
     ("view", |number| matches!(number, 0 | 1 | 3..=13)),
     ("sheet", |number| matches!(number, 0 | 1 | 3..=13)),
-    ("check", |number| matches!(number, 0 | 3..=12)),
+    ("check-v1", |number| matches!(number, 0 | 3 | 5..=12)),
+    ("check-v2", |number| matches!(number, 0 | 3 | 5..=12)),
+    ("check-other", |number| matches!(number, 3 | 4)),
     ("assemble", |number| matches!(number, 0 | 5 | 6 | 13 | 16)),
     ("disassemble", |number| matches!(number, 0 | 5 | 6 | 13)),
 ];
 
-/// The place of `check`, which is no call that writes.
+/// The place of the first check, which is no call that writes; behind those of the versions is that of all other images.
 const CHECK: usize = 5;
 
 /// The numbers that there are: 0 to 16.
@@ -59,6 +62,9 @@ pub enum Fact {
     JustEnough,
     ByteTooShort,
     SlotAndLabelAbove15,
+    StoppedByClearance,
+    RaisedWithinClearance,
+    ChildWithClearance,
     NoLine,
     Lines256,
     Lines257,
@@ -69,7 +75,7 @@ pub enum Fact {
 }
 
 /// The words for each fact, and the least number of calls of which it holds.
-const FACTS: [(&str, u64); 16] = [
+const FACTS: [(&str, u64); 19] = [
     ("0 turns", 100),
     ("1 to 16 turns", 100),
     ("17 to 999 turns", 100),
@@ -79,6 +85,9 @@ const FACTS: [(&str, u64); 16] = [
     ("output just long enough", 100),
     ("output a byte too short", 100),
     ("post with slot and label above 15", 100),
+    ("task stopped by its clearance", 1_000),
+    ("label raised within a clearance below 15", 500),
+    ("task made with a clearance below 15", 500),
     ("text of no line", 100),
     ("text of 256 lines accepted", 100),
     ("text of 257 lines", 100),
@@ -100,8 +109,13 @@ pub enum RecordOutcome {
 const RECORD_OUTCOMES: [&str; 4] = ["found", "unused slot", "slot above 15", "refused image"];
 
 /// The words for each `PostOutcome`.
-const POST_OUTCOMES: [&str; 4] =
-    ["delivered", "dropped at an unused slot", "dropped at a stopped task", "dropped behind four of its label"];
+const POST_OUTCOMES: [&str; 5] = [
+    "delivered",
+    "dropped at an unused slot",
+    "dropped at a stopped task",
+    "dropped at a task stopped by its clearance",
+    "dropped behind four of its label",
+];
 
 /// Counts of the calls that were compared.
 #[derive(Default)]
@@ -123,8 +137,8 @@ impl Tally {
             Call::Post(_) => 2,
             Call::View(_) => 3,
             Call::Sheet(_) => 4,
-            Call::Assemble => 6,
-            Call::Disassemble => 7,
+            Call::Assemble => 8,
+            Call::Disassemble => 9,
         };
         self.calls[row][usize::from(answer.number)] += 1;
         match (call, answer.number) {
@@ -143,9 +157,10 @@ impl Tally {
         }
     }
 
-    /// Counts a check on which the two agreed, by the number that they told.
-    pub fn check(&mut self, number: u8) {
-        self.calls[CHECK][usize::from(number)] += 1;
+    /// Counts a check on which the two agreed, by the image's version and the number that they told.
+    pub fn check(&mut self, image: &[u8], number: u8) {
+        let version = VERSIONS.iter().position(|version| image.first() == Some(version));
+        self.calls[CHECK + version.unwrap_or(VERSIONS.len())][usize::from(number)] += 1;
     }
 
     /// Counts a call of which that holds.

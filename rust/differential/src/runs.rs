@@ -64,9 +64,9 @@ impl End {
                 self.busy += answer.busy;
             }
             Call::Post(post) => {
-                let record = &self.image[(implementation.record)(&self.image, post.slot)];
-                let outcome = posts::outcome(record, post.label);
-                let met = record.get(1).copied();
+                let part = (implementation.record)(&self.image, post.slot);
+                let outcome = posts::outcome(&self.image, part.clone(), post.label);
+                let met = self.image[part].get(1).copied();
                 self.posts.push(Posted { at: PostAt { turns: self.turns, post }, outcome, met });
             }
             Call::Rewrite | Call::View(_) | Call::Sheet(_) | Call::Assemble | Call::Disassemble => {}

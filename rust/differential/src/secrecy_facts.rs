@@ -1,20 +1,22 @@
 //! What a trial of the secrecy rule was tried on: the facts that are counted.
 
 use crate::calls::Call;
+use crate::ceilings::was_stopped;
 use crate::lists::Step;
 use crate::posts::PostOutcome;
-use crate::runs::{End, Posted};
+use crate::runs::{End, Posted, Run};
 use crate::secrecy::{posts_at, Trial};
 use crate::secrecy_report::Fact;
 use layout::instructions::COUNT;
-use layout::{next, SLOTS, TASK_LENGTH};
+use layout::records::records;
+use layout::{next, task_length, SLOTS};
 
 impl Trial<'_> {
     /// The facts that hold of the trial with these ends; none where the images are the same at the start.
     pub fn facts(&self, ends: &[End; 2]) -> Vec<Fact> {
         let [first, second] = self.runs;
         let differ = first.start != second.start;
-        let facts = self.list_facts(ends).into_iter().chain(self.post_facts(ends));
+        let facts = self.list_facts(ends).into_iter().chain(self.ceiling_facts(ends)).chain(self.post_facts(ends));
         facts.filter(|&(_, holds)| differ && holds).map(|(fact, _)| fact).collect()
     }
 
@@ -33,6 +35,19 @@ impl Trial<'_> {
             (Fact::BothRan, hidden_ran && visible_ran),
             (Fact::BusyCountsDiffer, ends[0].busy != ends[1].busy),
             (Fact::VisibleCounts, (0..SLOTS as u32).any(|slot| self.counts_beside_hidden_mail(slot, ends[0].turns))),
+        ]
+    }
+
+    /// Of versions and clearances.
+    fn ceiling_facts(&self, ends: &[End; 2]) -> [(Fact, bool); 4] {
+        let [first, second] = self.runs;
+        let stopped = |seen| [(first, &ends[0]), (second, &ends[1])].map(|(run, end)| self.stopped(run, end, seen));
+        let [visible, hidden] = [true, false].map(stopped);
+        [
+            (Fact::Version1, first.start[0] == 1),
+            (Fact::Version2, first.start[0] == 2),
+            (Fact::VisibleStopped, !visible[0].is_empty()),
+            (Fact::HiddenStopsDiffer, hidden[0] != hidden[1]),
         ]
     }
 
@@ -70,13 +85,18 @@ impl Trial<'_> {
         self.sees(label) && is_count && u64::from(waits) < turns && task.len() != other.len()
     }
 
+    /// The slots of the tasks that their clearances stopped, of those that the observer sees at the end or of the others.
+    fn stopped(&self, run: &Run, end: &End, seen: bool) -> Vec<usize> {
+        let tasks = records(&run.start).zip(records(&end.image)).enumerate();
+        let stopped = tasks.filter(|(_, (before, after))| was_stopped(before, after) && self.sees(after[1]) == seen);
+        stopped.map(|(slot, _)| slot).collect()
+    }
+
     /// The labels at the start of the tasks that are others at the end, their mail aside.
     fn ran(&self, start: &[u8], end: &[u8]) -> Vec<u8> {
-        let task = |image: &[u8], slot| {
-            let part = (self.implementation.record)(image, slot);
-            image[part].iter().copied().take(TASK_LENGTH).collect::<Vec<u8>>()
-        };
-        let tasks = (0..16).map(|slot| (task(start, slot), task(end, slot)));
-        tasks.filter(|(before, after)| before != after).filter_map(|(before, _)| before.get(1).copied()).collect()
+        let length = task_length(start[0]);
+        let tasks = records(start).zip(records(end));
+        let others = tasks.filter(|(before, after)| before.iter().take(length).ne(after.iter().take(length)));
+        others.filter_map(|(before, _)| before.get(1).copied()).collect()
     }
 }

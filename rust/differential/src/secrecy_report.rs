@@ -20,6 +20,10 @@ pub enum Fact {
     BothRan,
     BusyCountsDiffer,
     VisibleCounts,
+    Version1,
+    Version2,
+    VisibleStopped,
+    HiddenStopsDiffer,
     VisibleDelivered,
     VisibleToUnusedSlot,
     VisibleToStoppedTask,
@@ -31,7 +35,7 @@ pub enum Fact {
 }
 
 /// The words for each fact, and the least number of trials of which it holds.
-const FACTS: [(&str, u64); 16] = [
+const FACTS: [(&str, u64); 20] = [
     ("images differ at the start", 2_000),
     ("lists differ", 2_000),
     ("calls refused", 2_000),
@@ -40,6 +44,10 @@ const FACTS: [(&str, u64); 16] = [
     ("visible and hidden tasks ran", 2_000),
     ("busy counts differ", 2_000),
     ("visible task counts where hidden mail differs", 1_000),
+    ("images of version 1", 2_000),
+    ("images of version 2", 2_000),
+    ("visible task stopped by its clearance", 500),
+    ("hidden task stopped by its clearance in one list only", 300),
     ("visible post delivered", 2_000),
     ("visible post to an unused slot", 2_000),
     ("visible post to a stopped task", 2_000),

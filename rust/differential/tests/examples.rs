@@ -1,65 +1,15 @@
 //! The scope document's checked examples, with both implementations and the values that it gives; and posts, by the
 //! words of U1.
 
-use differential::calls::{Answer, Call, Implementation, Post, BOTH};
+mod both;
+
+use both::{accepted, b, both_give, live, post_gives, refused, turns_give};
+use differential::calls::{Call, Post};
 use layout::{Image, Message, Task};
-
-/// A live task with label 0, no spare, no mail and registers 0.
-fn live(place: u16) -> Task {
-    Task { place, ..Task::default() }
-}
-
-/// The scope document's image B.
-fn b() -> Image {
-    let mut image = Image::new(vec![[0x08, 1, 0, 2], [0, 0, 0, 0], [0x09, 3, 4, 0], [0, 0, 0, 0]]);
-    image.slots[0] = Some(Task { registers: [0, 5, 700, 0, 0, 0, 0, 0], ..live(0) });
-    image.slots[5] = Some(live(2));
-    image
-}
 
 /// Messages of a label, from slot 0.
 fn messages(label: u8, value: u32, count: usize) -> Vec<Message> {
     vec![Message { label, sender: 0, value }; count]
-}
-
-/// What a call gives with an output that is long enough: its bytes and busy count, or its number.
-fn give(implementation: Implementation, call: Call, image: &Image) -> Result<(Vec<u8>, u64), u8> {
-    let mut out = vec![0; rithennaw::IMAGE_MAX];
-    let answer = (implementation.call)(call, &image.bytes(), &mut out);
-    out.truncate(answer.length);
-    match answer.number {
-        0 => Ok((out, answer.busy)),
-        number => Err(number),
-    }
-}
-
-/// Both implementations give that.
-fn both_give(call: Call, image: &Image, expected: Result<(Vec<u8>, u64), u8>) {
-    for implementation in BOTH {
-        assert_eq!(give(implementation, call, image), expected, "{call:?} of the {}", implementation.name);
-    }
-}
-
-/// After that many turns the image is `after`.
-fn turns_give(image: &Image, count: u64, after: &Image, busy: u64) {
-    both_give(Call::Turns(count), image, Ok((after.bytes(), busy)));
-}
-
-/// Both implementations tell that number of the image.
-fn both_check(image: &Image, number: u8) {
-    for implementation in BOTH {
-        assert_eq!((implementation.check)(&image.bytes()), number, "check of the {}", implementation.name);
-    }
-}
-
-fn accepted(image: &Image) {
-    both_check(image, 0);
-    both_give(Call::Rewrite, image, Ok((image.bytes(), 0)));
-}
-
-fn refused(image: &Image, number: u8) {
-    both_check(image, number);
-    both_give(Call::Rewrite, image, Err(number));
 }
 
 /// P2: B after 1 turn.
@@ -235,17 +185,6 @@ fn the_sheet_of_p2_for_observer_0() {
     both_give(Call::Sheet(0), &p2(), Ok((sheet.to_vec(), 0)));
     assert_eq!(reference::slotsheet(&[vec![0], p2().bytes()].concat()), sheet);
     assert_eq!(reference::slotsheet(&[]), b"refused 3\n");
-}
-
-/// Both implementations tell of that post that its message was delivered or dropped, and write `after`.
-fn post_gives(image: &Image, post: Post, after: &Image, delivered: bool) {
-    let told = Answer { length: after.bytes().len(), delivered, ..Answer::default() };
-    for implementation in BOTH {
-        let mut out = vec![0; rithennaw::IMAGE_MAX];
-        let answer = (implementation.call)(Call::Post(post), &image.bytes(), &mut out);
-        assert_eq!(answer, told, "{post:?} of the {}", implementation.name);
-        assert_eq!(out[..answer.length], after.bytes(), "{post:?} of the {}", implementation.name);
-    }
 }
 
 /// A message from the host.

@@ -1,5 +1,6 @@
 //! Wrong implementations, each wrong in one thing, are found by comparing calls.
 
+mod ceilings;
 mod texts;
 mod wrong;
 
@@ -8,10 +9,11 @@ use differential::calls::{Answer, Call, Implementation, Post, MONITOR, REFERENCE
 use differential::cases;
 use differential::compare::Comparison;
 use differential::report::Outcome;
-use layout::instructions::TAKE;
-use layout::{MESSAGE_LENGTH, PLACE_AT, TASK_LENGTH};
+use layout::instructions::{COUNT, TAKE};
+use layout::{place_at, task_length, MESSAGE_LENGTH};
 use rithennaw::IMAGE_MIN;
-use wrong::counting::{all_counted, one_turn, turn_by_turn, Counting};
+use wrong::counting::all_counted;
+use wrong::turning::{one_turn, turn_by_turn, Turning};
 use wrong::{common_limit, post_and_turn, right, wrong, SEEDS};
 
 /// What is compared for a seed.
@@ -158,26 +160,33 @@ fn a_post_ahead_of_the_other_messages() {
         let answer = right(call, image, out);
         if let (Call::Post(post), true) = (call, answer.delivered) {
             let record = reference::record(&out[..answer.length], post.slot);
-            out[record][TASK_LENGTH..].rotate_right(MESSAGE_LENGTH);
+            out[record][task_length(image[0])..].rotate_right(MESSAGE_LENGTH);
         }
         answer
     }));
 }
 
-#[test]
-fn a_post_into_a_stopped_task() {
-    found(wrong(|call, image, out| match call {
-        Call::Post(post) if !reference::record(image, post.slot).is_empty() => {
+/// Posts into tasks of that kind as if they were live.
+fn post_into<const KIND: u8>() -> Implementation {
+    wrong(|call, image, out| match call {
+        Call::Post(post) if image[reference::record(image, post.slot)].starts_with(&[KIND]) => {
             // A live task, for as long as the post takes.
             let at = reference::record(image, post.slot).start;
             let mut live = image.to_vec();
             live[at] = 1;
             let answer = right(call, &live, out);
-            out[..answer.length].iter_mut().skip(at).take(1).for_each(|kind| *kind = image[at]);
+            out[..answer.length].iter_mut().skip(at).take(1).for_each(|kind| *kind = KIND);
             answer
         }
         _ => right(call, image, out),
-    }));
+    })
+}
+
+#[test]
+fn a_post_into_a_stopped_task() {
+    for wrong in [post_into::<2>(), post_into::<3>(), post_into::<4>(), post_into::<5>(), post_into::<6>()] {
+        found(wrong);
+    }
 }
 
 #[test]
@@ -208,22 +217,22 @@ fn counts(comparison: &mut Comparison, seed: u64) -> Outcome {
 }
 
 /// A turn that counts and takes the oldest receivable message away.
-fn count_and_take(counting: &Counting, image: &[u8]) -> Vec<u8> {
+fn count_and_take(turning: &Turning, image: &[u8]) -> Vec<u8> {
     let counted = one_turn(image);
-    let register = image[counting.at + 1];
+    let register = image[turning.at + 1];
     let mut taking = image.to_vec();
-    taking[counting.at..][..3].copy_from_slice(&[TAKE, register, register]);
+    taking[turning.at..][..3].copy_from_slice(&[TAKE, register, register]);
     let mut took = one_turn(&taking);
-    took[counting.at..][..4].copy_from_slice(&image[counting.at..][..4]);
-    let [from, to] = [&counted, &took].map(|image| reference::record(image, counting.slot).start + PLACE_AT);
-    let figures = counted[from..][..TASK_LENGTH - PLACE_AT].to_vec();
-    took[to..][..figures.len()].copy_from_slice(&figures);
+    took[turning.at..][..4].copy_from_slice(&image[turning.at..][..4]);
+    let [from, to] = [&counted, &took].map(|image| reference::record(image, turning.slot).start);
+    let figures = place_at(image[0])..task_length(image[0]);
+    took[to..][figures.clone()].copy_from_slice(&counted[from..][figures]);
     took
 }
 
 #[test]
 fn a_count_of_all_messages_or_one_that_takes_one_away() {
-    let takes_one = wrong(|call, image, out| turn_by_turn(call, image, out, count_and_take));
+    let takes_one = wrong(|call, image, out| turn_by_turn(call, image, out, COUNT, count_and_take));
     for wrong in [all_counted(), takes_one] {
         found(wrong);
         let report = difference_in(counts, [wrong, wrong]).expect("a difference");
@@ -319,7 +328,8 @@ fn numbers_14_and_15_behind_13() {
 /// Whether a message in that slot is from the host.
 fn has_host_mail(image: &[u8], slot: u32) -> bool {
     let record = &image[reference::record(image, slot)];
-    record.iter().skip(TASK_LENGTH + 1).step_by(MESSAGE_LENGTH).any(|&sender| sender == 16)
+    let mail = image.first().and_then(|&version| record.get(task_length(version)..)).unwrap_or_default();
+    mail.chunks(MESSAGE_LENGTH).any(|message| message[1] == 16)
 }
 
 #[test]

@@ -9,9 +9,8 @@ use differential::rng::Rng;
 use differential::text_damage::TEXT_FAULTS;
 use differential::texts::Text;
 use layout::instructions::TABLE;
-use layout::{Image, SLOTS};
+use layout::{Image, SLOTS, VERSIONS};
 use rithennaw::{record, turns, IMAGE_MAX, IMAGE_MIN, PROGRAM_MAX};
-use std::collections::BTreeSet;
 
 /// The number that both tell of an image.
 fn numbers(image: &[u8]) -> [u8; 2] {
@@ -27,28 +26,57 @@ fn made_up(seeds: u64) -> impl Iterator<Item = (Rng, Image)> {
 }
 
 #[test]
-fn images_are_accepted_from_the_shortest_to_the_longest() {
-    let lengths: BTreeSet<usize> = made_up(2_000)
-        .map(|(_, image)| {
+fn images_of_both_versions_are_accepted_from_the_shortest_to_the_longest() {
+    for (version, longest) in [(1, 7_796), (2, IMAGE_MAX)] {
+        let mut lengths = Vec::new();
+        for (_, image) in made_up(2_000).filter(|(_, image)| image.version == version) {
             assert_eq!(numbers(&image.bytes()), [0, 0], "{image:?}");
-            image.bytes().len()
-        })
-        .collect();
-    assert_eq!((lengths.first(), lengths.last()), (Some(&IMAGE_MIN), Some(&IMAGE_MAX)));
+            lengths.push(image.bytes().len());
+        }
+        assert!(lengths.len() >= 900, "{} of version {version}", lengths.len());
+        assert_eq!((lengths.iter().min(), lengths.iter().max()), (Some(&IMAGE_MIN), Some(&longest)));
+    }
 }
 
 #[test]
-fn each_fault_alone_leads_to_its_number() {
+fn each_fault_alone_leads_to_its_number_in_each_version_that_has_its_field() {
     for fault in &FAULTS {
-        let mut applied = 0;
-        for (mut rng, mut image) in made_up(300) {
+        let mut applied = [0; VERSIONS.len()];
+        for (mut rng, mut image) in made_up(500) {
             if (fault.apply)(&mut rng, &mut image) {
-                applied += 1;
+                applied[usize::from(image.version) - 1] += 1;
                 assert_eq!(numbers(&image.bytes()), [fault.number; 2], "{}: {image:?}", fault.name);
             }
         }
-        assert!(applied >= 50, "{} was applied {applied} times", fault.name);
+        let [first, second] = applied;
+        let has_field = !fault.name.starts_with("clearance");
+        assert!((first >= 50) == has_field && (first == 0) != has_field, "{} in version 1: {first}", fault.name);
+        assert!(second >= 50, "{} in version 2: {second}", fault.name);
     }
+}
+
+#[test]
+fn images_without_tasks_are_those_of_the_other_version_but_for_the_first_byte() {
+    for version in VERSIONS {
+        let images = made_up(2_000).filter(|(_, image)| image.version == version && image.used().is_empty());
+        let numbers: Vec<[u8; 2]> =
+            images.map(|(_, image)| numbers(&Image { first_byte: Some(3 - version), ..image }.bytes())).collect();
+        assert!(numbers.len() >= 50 && numbers.iter().all(|&numbers| numbers == [0, 0]), "{numbers:?}");
+    }
+}
+
+#[test]
+fn clearances_are_tight_all_owners_or_between() {
+    let tasks: Vec<_> = made_up(500)
+        .filter(|(_, image)| image.version == 2)
+        .flat_map(|(_, image)| image.slots.into_iter().flatten().collect::<Vec<_>>())
+        .collect();
+    let tight = tasks.iter().filter(|task| task.clearance == task.label).count();
+    let all = tasks.iter().filter(|task| task.clearance == 15).count();
+    let between = tasks.iter().filter(|task| task.clearance != task.label && task.clearance != 15).count();
+    assert!([tight, all, between].iter().all(|&count| 5 * count >= tasks.len()), "{tight} {all} {between}");
+    let of_each = |clearance| tasks.iter().filter(|task| task.clearance == clearance).count();
+    assert!((0..16).all(|clearance| of_each(clearance) >= 20), "{:?}", (0..16).map(of_each).collect::<Vec<_>>());
 }
 
 /// The number that both tell of a text.
@@ -131,7 +159,7 @@ fn tasks_stop_in_every_way_raise_send_take_and_make_tasks() {
         let after = turns(&before, 600).expect("an accepted image").image;
         (0..SLOTS as u32).for_each(|slot| all.extend(events(record(&before, slot), record(&after, slot))));
     }
-    assert_often(&["kind 2", "kind 3", "kind 4", "kind 5", "made", "raised", "received", "took"], &all);
+    assert_often(&["kind 2", "kind 3", "kind 4", "kind 5", "kind 6", "made", "raised", "received", "took"], &all);
 }
 
 /// When the posts of a plan come, and what the calls of a list are and tell.

@@ -12,7 +12,7 @@ fn differential(arguments: &[&str]) -> Output {
 fn calls(printed: &str) -> u64 {
     let mut lines = printed.lines();
     let heading = lines.next().unwrap_or_default();
-    let names = "number rewrite turns post view sheet check assemble disassemble";
+    let names = "number rewrite turns post view sheet check-v1 check-v2 check-other assemble disassemble";
     assert!(heading.split_whitespace().eq(names.split(' ')), "{heading}");
     let mut counts = Vec::new();
     for number in 0..=16 {

@@ -9,7 +9,10 @@ use differential::rng::Rng;
 use differential::runs::Run;
 use differential::secrecy::{self, Trial};
 use differential::secrecy_report::SecrecyTally;
+use layout::next;
+use layout::records::records;
 use wrong::counting::all_counted;
+use wrong::versions::{narrowed, written_as};
 use wrong::{common_limit, post_and_turn, right, wrong, SEEDS};
 
 /// A trial of the secrecy rule on that implementation alone fails.
@@ -75,8 +78,7 @@ fn a_post_of_which_every_observer_sees_that_it_was_dropped() {
         let answer = right(call, image, out);
         // Of label 0, which no two lists differ in: only a task that is there in one of the images shows here.
         if matches!(call, Call::Post(Post { label: 0, .. })) && answer.number == 0 && !answer.delivered {
-            let turn_slot = 3 + usize::from(u16::from_be_bytes([out[1], out[2]]));
-            out[turn_slot] = (out[turn_slot] + 1) % 16;
+            next_turn_slot(out);
         }
         answer
     }));
@@ -85,6 +87,45 @@ fn a_post_of_which_every_observer_sees_that_it_was_dropped() {
 #[test]
 fn a_count_of_hidden_mail() {
     not_secret(all_counted());
+}
+
+/// Puts the turn slot of an image on to its successor, which every observer sees.
+fn next_turn_slot(image: &mut [u8]) {
+    let at = next::turn_slot_at(image);
+    image[at] = (image[at] + 1) % 16;
+}
+
+/// Whether a task of the image was stopped by its clearance.
+fn has_stopped(image: &[u8]) -> bool {
+    records(image).any(|task| task.starts_with(&[6]))
+}
+
+#[test]
+fn a_stop_by_a_clearance_that_every_observer_sees() {
+    not_secret(wrong(|call, image, out| {
+        let answer = right(call, image, out);
+        let turned = matches!(call, Call::Turns(_)) && answer.number == 0;
+        if turned && !has_stopped(image) && has_stopped(&out[..answer.length]) {
+            next_turn_slot(out);
+        }
+        answer
+    }));
+}
+
+#[test]
+fn an_image_whose_version_tells_of_hidden_clearances() {
+    not_secret(wrong(|call, image, out| match call {
+        Call::Turns(_) => written_as(call, image, out, narrowed),
+        _ => right(call, image, out),
+    }));
+}
+
+#[test]
+fn a_view_that_shows_everything_once_a_clearance_has_stopped_a_task() {
+    not_secret(wrong(|call, image, out| match call {
+        Call::View(0..=15) if has_stopped(image) => right(Call::Rewrite, image, out),
+        _ => right(call, image, out),
+    }));
 }
 
 /// A change of a plan; false where the plan has nothing that can be changed so.
@@ -100,7 +141,7 @@ struct Breaches {
 /// Trials in which one list has what a plan has, and the other what the plan has once it is changed.
 fn breaches(change: Change) -> Breaches {
     let mut breaches = Breaches::default();
-    for seed in 0..6 * SEEDS {
+    for seed in 0..2 * SEEDS {
         let rng = &mut Rng::new(seed);
         let observer = rng.byte_below(16);
         let [first, second] = pairs::pair(rng, observer);
