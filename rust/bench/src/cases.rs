@@ -21,7 +21,8 @@ pub struct Case {
 pub const AIM: f64 = 0.9;
 
 /// All cases, in the order in which they are printed: each kind in two workloads, so that no single image is tuned for,
-/// and beside the full mailboxes one in which every message is dropped and one in which they are counted.
+/// beside the full mailboxes one in which every message is dropped and one in which they are counted, and beside the tree
+/// the same in version 2.
 pub fn cases() -> Vec<Case> {
     full_cases().into_iter().chain(light_cases()).collect()
 }
@@ -46,13 +47,14 @@ fn full_cases() -> [Case; 6] {
     ]
 }
 
-fn light_cases() -> [Case; 6] {
+fn light_cases() -> [Case; 7] {
     let case = |name, image, live, mail| Case { name, image, live, late: 0, mail };
-    let tree = case("1 task that becomes a tree of 16, mailboxes nearly empty", light_mailboxes::tree(), 16, 1..=128);
+    let tree = |name, image| Case { late: 32, ..case(name, image, 16, 1..=128) };
     let first_and_last = registers::out_of_step([0, SLOTS - 1]);
     [
         case("16 tasks, mailboxes nearly empty", light_mailboxes::ring(), 16, 1..=64),
-        Case { late: 32, ..tree },
+        tree("1 task that becomes a tree of 16, mailboxes nearly empty", light_mailboxes::tree()),
+        tree("the same tree of 16 in version 2, raising within clearances", light_mailboxes::cleared_tree()),
         case("16 tasks, registers only", registers::in_step(SLOTS), 16, 0..=0),
         case("16 tasks out of step, registers only", registers::out_of_step(0..SLOTS), 16, 0..=0),
         case("1 task, registers only", registers::in_step(1), 1, 0..=0),
@@ -86,7 +88,7 @@ mod tests {
     use crate::tally::{Received, Tally};
     use differential::calls::Answer;
     use layout::instructions::{ADD, COPY, COUNT, GO, SELF, SET, SUBTRACT, ZERO};
-    use layout::REGISTERS_AT;
+    use layout::registers_at;
     use std::collections::BTreeSet;
 
     /// What is done in the case whose name has these words.
@@ -135,7 +137,7 @@ mod tests {
         let counted = rithennaw::turns(&case.image, 16).unwrap().image;
         for slot in rithennaw::Slot::all() {
             let record = rithennaw::record(&counted, slot);
-            let told = u32::from_be_bytes(*record[REGISTERS_AT + 4 * 3..].first_chunk().unwrap());
+            let told = u32::from_be_bytes(*record[registers_at(counted[0]) + 4 * 3..].first_chunk().unwrap());
             assert_eq!(told, 4 << record[1].count_ones(), "label {}", record[1]);
         }
     }
@@ -165,7 +167,7 @@ mod tests {
 
     #[test]
     fn mailboxes_that_are_nearly_empty_hold_few_messages() {
-        for words in ["tasks, mailboxes nearly", "tree"] {
+        for words in ["tasks, mailboxes nearly", "task that becomes", "version 2"] {
             let tally = tally(words);
             assert!(tally.delivered > 0 && !tally.received.is_empty(), "{words}");
             assert!(tally.received.iter().all(|received| received.in_front + received.behind < 8), "{words}");
@@ -174,11 +176,25 @@ mod tests {
 
     #[test]
     fn the_tree_fills_all_slots_and_goes_on_raising_sending_and_receiving() {
-        assert_eq!(Tally::of_beginning(&case("tree").image).sandboxed, 15);
-        let tally = tally("tree");
+        assert_eq!(Tally::of_beginning(&case("task that becomes").image).sandboxed, 15);
+        let tally = tally("task that becomes");
         assert!(tally.raised > 100 && tally.delivered > 100 && tally.dropped > 100);
         let receivers: BTreeSet<u8> = tally.received.iter().map(|received| received.slot).collect();
         assert_eq!(receivers.len(), 16);
+    }
+
+    /// So that what differs in their times is the version's.
+    #[test]
+    fn the_tree_of_version_2_does_the_same_below_a_clearance_that_all_come_up_to() {
+        let [first, second] =
+            ["task that becomes", "version 2"].map(|words| rithennaw::turns(&case(words).image, 16_000));
+        let [first, second] = [first.unwrap().image, second.unwrap().image];
+        assert_eq!((first[0], second[0]), (1, 2));
+        for slot in rithennaw::Slot::all() {
+            let [record, cleared] = [&first, &second].map(|image| rithennaw::record(image, slot));
+            assert_eq!([&record[..2], &[3], &record[2..]].concat(), cleared);
+            assert_eq!(record[1], 3);
+        }
     }
 
     #[test]

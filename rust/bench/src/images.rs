@@ -1,6 +1,6 @@
 //! What the measured images are written with: tasks and messages as text, and what is read from an image after a run.
 
-use layout::{MESSAGE_LENGTH, TASK_LENGTH};
+use layout::{task_length, MESSAGE_LENGTH};
 use std::ops::Range;
 
 /// The numbers of slots and of labels.
@@ -39,7 +39,7 @@ pub fn four_of_each(labels: Range<u8>) -> String {
 
 /// The messages in all mailboxes of an image together.
 pub fn count_messages(image: &[u8]) -> usize {
-    records(image).map(|record| record.len().saturating_sub(TASK_LENGTH) / MESSAGE_LENGTH).sum()
+    records(image).map(|record| record.len().saturating_sub(task_length(image[0])) / MESSAGE_LENGTH).sum()
 }
 
 /// The live tasks of an image.

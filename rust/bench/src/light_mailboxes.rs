@@ -61,3 +61,8 @@ pub fn ring() -> Vec<u8> {
 pub fn tree() -> Vec<u8> {
     image(TREE, [0], |_| "spare 15".to_string())
 }
+
+/// The same in version 2, with the clearance that just admits what all of them raise to.
+pub fn cleared_tree() -> Vec<u8> {
+    image(&format!("version 2\n{TREE}"), [0], |_| "clearance 3 spare 15".to_string())
+}

@@ -50,7 +50,7 @@ mod tests {
     #[test]
     fn every_case_holds_what_it_says_in_a_short_run() {
         let cases = cases();
-        assert_eq!(cases.len(), 12);
+        assert_eq!(cases.len(), 13);
         for case in cases {
             let figure = measure_case(&case, SHORT).unwrap();
             assert!(figure.times.iter().all(|&time| time > 0), "{}", case.name);

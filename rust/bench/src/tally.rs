@@ -2,7 +2,7 @@
 
 use crate::images::SLOTS;
 use layout::instructions::{POLL, RAISE, SANDBOX, SEND, TAKE};
-use layout::{next, MESSAGE_LENGTH, TASK_LENGTH};
+use layout::{next, task_length, MESSAGE_LENGTH};
 use std::collections::BTreeSet;
 
 /// Turns ahead of those that are counted, and those: as often each slot's.
@@ -75,7 +75,8 @@ impl Tally {
 /// The task whose turn is next, and its instruction: where it stands in the image, and its code.
 struct NextTask<'a> {
     slot: u8,
-    record: &'a [u8],
+    label: u8,
+    mail: &'a [u8],
     at: usize,
     code: u8,
 }
@@ -87,13 +88,13 @@ impl NextTask<'_> {
         let number = rithennaw::Slot::all().nth(slot.into()).unwrap();
         let record = rithennaw::record(image, number);
         let at = next::instruction_at(image, record).unwrap();
-        NextTask { slot, record, at, code: image[at] }
+        NextTask { slot, label: record[1], mail: &record[task_length(image[0])..], at, code: image[at] }
     }
 
     /// The oldest message whose label flows to the task's.
     fn receives(&self) -> Received {
-        let labels: Vec<u8> = self.record[TASK_LENGTH..].chunks(MESSAGE_LENGTH).map(|message| message[0]).collect();
-        let in_front = labels.iter().position(|label| label & !self.record[1] == 0).unwrap();
+        let labels: Vec<u8> = self.mail.chunks(MESSAGE_LENGTH).map(|message| message[0]).collect();
+        let in_front = labels.iter().position(|label| label & !self.label == 0).unwrap();
         Received { slot: self.slot, label: labels[in_front], in_front, behind: labels.len() - in_front - 1 }
     }
 }
