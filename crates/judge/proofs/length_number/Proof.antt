@@ -1,7 +1,7 @@
 -- `judge::length_number` meets its contract: the code makes the tests of `lengthNumber`, in their order.
 use Prim.Native.Nat.{_+_}
 use mathlib.Core.Path.{_≡_}
-use borrow.Author.Tests.{lt-leb, le-leb}
+use borrow.Author.Tests.{not-true, not-false, lt-leb, le-leb}
 use native.Mathlib.Omega.{arith}
 use denote.Ref.{now}
 use lib.Dec.{leb}
@@ -21,13 +21,13 @@ unfolding lengthNumber
 tests c = rw (le-leb _ _ (c .before .before .if1 .left), c .is-record-length .ensures, c .before .record-length .ensures .0)
 
 returns-2 : tie.Need-returns-2
-returns-2 c = simp (tests (c .before .before), c .before .if2 .taken, c .if3 .taken)
+returns-2 c = rw (tests (c .before), not-true (c .before .is-record-length .result) (c .if2 .taken))
 
 returns-3 : tie.Need-returns-3
-returns-3 c = simp (tests (c .before .before), c .before .if2 .taken, c .if3 .left)
+returns-3 c = rw (tests (c .before .before), not-false (c .before .before .is-record-length .result) (c .before .if2 .left), lt-leb _ _ (c .if3 .taken))
 
 returns-4 : tie.Need-returns-4
-returns-4 c = simp (tests (c .before), c .if2 .left)
+returns-4 c = rw (tests (c .before .before), not-false (c .before .before .is-record-length .result) (c .before .if2 .left), le-leb _ _ (c .if3 .left))
 
 pub length-number-spec : {M : Type 1} → statement M
-length-number-spec = tie.close (tie.spec returns (λ c κs. tt) (λ c κs. tt) (λ c. omega arith) returns-2 returns-3 returns-4)
+length-number-spec = tie.close (tie.spec returns (λ c κs. tt) (λ c κs. tt) returns-2 (λ c. omega arith) returns-3 returns-4)
