@@ -169,10 +169,12 @@ fn length_number(version: u8, b: &[u8]) -> u8
         return 3;
     }
     let l = image::record_length(b);
-    if !is_record_length(version, l) {
+    let admitted = is_record_length(version, l);
+    let whole = 2 + l <= b.len();
+    if !admitted {
         return 8;
     }
-    if b.len() < 2 + l { 3 } else { 0 }
+    if whole { 0 } else { 3 }
 }
 
 // What is wrong with a slot, at the front of b: its length, then its record.

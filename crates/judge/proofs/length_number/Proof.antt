@@ -24,10 +24,10 @@ returns-2 : tie.Need-returns-2
 returns-2 c = rw (tests (c .before), not-true (c .before .is-record-length .result) (c .if2 .taken))
 
 returns-3 : tie.Need-returns-3
-returns-3 c = rw (tests (c .before .before), not-false (c .before .before .is-record-length .result) (c .before .if2 .left), lt-leb _ _ (c .if3 .taken))
+returns-3 c = rw (tests (c .before .before), not-false (c .before .before .is-record-length .result) (c .before .if2 .left), c .if3 .taken)
 
 returns-4 : tie.Need-returns-4
-returns-4 c = rw (tests (c .before .before), not-false (c .before .before .is-record-length .result) (c .before .if2 .left), le-leb _ _ (c .if3 .left))
+returns-4 c = rw (tests (c .before .before), not-false (c .before .before .is-record-length .result) (c .before .if2 .left), c .if3 .left)
 
 pub length-number-spec : {M : Type 1} → statement M
-length-number-spec = tie.close (tie.spec returns (λ c κs. tt) (λ c κs. tt) returns-2 (λ c. omega arith) returns-3 returns-4)
+length-number-spec = tie.close (tie.spec returns (λ c κs. tt) (λ c κs. tt) (λ c. omega arith) returns-2 returns-3 returns-4)
