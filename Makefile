@@ -33,6 +33,8 @@ installed := include/rithennaw.h lib/librithennaw.a lib/pkgconfig/rithennaw.pc b
 
 # One rt at a time: it keeps its files in target/, and uses the processors itself.
 .NOTPARALLEL:
+# An archive that tools/align has failed on is not taken for one that is built.
+.DELETE_ON_ERROR:
 .PHONY: all lib check test link-test rust-test examples demo differential bench install uninstall fmt clean help
 
 # slotsheet first: its rt check proves all crates, side by side, where rt staticlib would prove them one after the other.
@@ -42,6 +44,7 @@ lib: $(archive) ## prove and build the archive for C and Rust, target/staticlib/
 
 $(archive): $(sources)
 	@$(prove) staticlib rithennaw
+	@tools/align $@
 
 # rt leaves a program alone that has not changed, so the times of both are set here.
 $(slotsheet) $(lookprobe): $(sources)
