@@ -1,4 +1,6 @@
 // The code of the monitor's calls. Each takes any bytes and refuses what it cannot take.
+#![tactic(auto)]
+
 ghost use Rattle.std.specs.Prelude.{◌≡◌, ◌&&◌, eqb, length};
 ghost use Rattle.wire.specs.Slices.{offset_by};
 ghost use Rattle.wire.specs.Inner.{written};

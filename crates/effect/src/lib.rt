@@ -1,4 +1,6 @@
 // The effect of each instruction on the table, and a message's delivery. They rest on a slot that is ready for an instruction.
+#![tactic(auto)]
+
 ghost use Rattle.std.specs.Prelude.{◌≡◌, ◌<◌, ◌≤◌, length, nat_lt, slice_set};
 ghost use Rattle.label.specs.Label.{flows};
 ghost use Rattle.instruction.specs.declared.Instruction.TheVariants.{Copy, Add, Subtract, Zero, Raise, Send, Take, Poll, Sandbox, Identity, Count};

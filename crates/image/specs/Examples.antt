@@ -62,7 +62,7 @@ pub record Examples : Type 0 where
   pub short : image_number (take 39 empty_image) ≡ 3
   pub version : (image_number (set empty_image 0 0) ≡ 4) × (image_number (set empty_image 0 3) ≡ 4)
   pub program_length : image_number (set empty_image 2 6) ≡ 5
-  pub instruction : image_number (set empty_image 3 0x_fF) ≡ 6
+  pub instruction : image_number (set empty_image 3 0xFF) ≡ 6
   pub turn_slot : image_number (set empty_image 7 16) ≡ 7
   pub record_length : image_number (set empty_image 9 36) ≡ 8
   pub tail : image_number (empty_image ++ (0 ∷ [])) ≡ 11
@@ -75,7 +75,7 @@ pub record Examples : Type 0 where
   -- "Slot 3 with spare 2: slot 5 used gives 12, slot 6 used is accepted."
   pub estate : (number_of (two 3 (task 0 2 0) 5 (task 0 0 0)) ≡ 12) × (number_of (two 3 (task 0 2 0) 6 (task 0 0 0)) ≡ 0)
   -- "a part checked whole for 3 before it is judged": the program ahead of its instructions, a record ahead of its fields
-  pub whole : (image_number (take 6 (set empty_image 3 0x_fF)) ≡ 3) × (image_number (take 46 (image (one 0 (with_kind 9 (task 0 0 0))))) ≡ 3)
+  pub whole : (image_number (take 6 (set empty_image 3 0xFF)) ≡ 3) × (image_number (take 46 (image (one 0 (with_kind 9 (task 0 0 0))))) ≡ 3)
   -- "per slot 8, 3, 9, 10": 8 ahead of 3, 9 ahead of 10, and a slot ahead of the next
   pub slots : (image_number (take 10 (set empty_image 9 36)) ≡ 8)
       × (number_of (one 0 (with_kind 9 (of_two 5))) ≡ 9)

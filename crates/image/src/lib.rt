@@ -1,4 +1,6 @@
 // The image of all tasks: its layout, and its parts.
+#![tactic(auto)]
+
 ghost use Rattle.std.specs.Prelude.{◌<◌, ◌≤◌, ◌≡◌};
 ghost use Rattle.machine.specs.Valid.{is_program_length};
 ghost use Rattle.image.specs.Format.{task_size};

@@ -44,10 +44,10 @@ table =
     ∷ row 0x07 "raise" L blank blank (λ a b c. Raise a)
     ∷ row 0x08 "send" R L R (λ a b c. Send a b c)
     ∷ row 0x09 "take" R R blank (λ a b c. Take a b)
-    ∷ row 0x0_a "poll" R R T (λ a b c. Poll a b c)
-    ∷ row 0x0_b "sandbox" R T S (λ a b c. Sandbox a b c)
-    ∷ row 0x0_c "self" R R blank (λ a b c. Identity a b)
-    ∷ row 0x0_d "count" R blank blank (λ a b c. Count a)
+    ∷ row 0x0A "poll" R R T (λ a b c. Poll a b c)
+    ∷ row 0x0B "sandbox" R T S (λ a b c. Sandbox a b c)
+    ∷ row 0x0C "self" R R blank (λ a b c. Identity a b)
+    ∷ row 0x0D "count" R blank blank (λ a b c. Count a)
     ∷ []
 
 abbrev pub legal_if : Bool → Instruction → Decoded

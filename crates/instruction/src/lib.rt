@@ -1,4 +1,6 @@
 // Instructions: each code is decoded into one form that carries its own operands.
+#![tactic(auto)]
+
 ghost use Rattle.std.specs.Prelude.{◌<◌, ◌≡◌, true};
 ghost use Rattle.instruction.specs.declared.Decoded.TheVariants.{Legal};
 ghost use Rattle.instruction.specs.Table.{legal_if, decode};
@@ -60,16 +62,16 @@ pub fn decode(n: usize, code: u8, a: u8, b: u8, c: u8) -> Decoded
         0x07 => legal_if((a < 16) & (b == 0) & (c == 0), Instruction::Raise(a)),
         0x08 => legal_if((a < 8) & (b < 16) & (c < 8), Instruction::Send(a, b, c)),
         0x09 => legal_if((a < 8) & (b < 8) & (c == 0), Instruction::Take(a, b)),
-        0x0_a => legal_if(
+        0x0A => legal_if(
             (a < 8) & (b < 8) & ((c as usize) < n),
             Instruction::Poll(a, b, c),
         ),
-        0x0_b => legal_if(
+        0x0B => legal_if(
             (a < 8) & ((b as usize) < n) & ((1 <= c) & (c <= 15)),
             Instruction::Sandbox(a, b, c),
         ),
-        0x0_c => legal_if((a < 8) & (b < 8) & (c == 0), Instruction::Identity(a, b)),
-        0x0_d => legal_if((a < 8) & (b == 0) & (c == 0), Instruction::Count(a)),
+        0x0C => legal_if((a < 8) & (b < 8) & (c == 0), Instruction::Identity(a, b)),
+        0x0D => legal_if((a < 8) & (b == 0) & (c == 0), Instruction::Count(a)),
         _ => Decoded::Illegal,
     }
 }
@@ -135,9 +137,9 @@ fn form(code: u8, a: u8, b: u8, c: u8) -> Instruction
         0x07 => Instruction::Raise(a),
         0x08 => Instruction::Send(a, b, c),
         0x09 => Instruction::Take(a, b),
-        0x0_a => Instruction::Poll(a, b, c),
-        0x0_b => Instruction::Sandbox(a, b, c),
-        0x0_c => Instruction::Identity(a, b),
+        0x0A => Instruction::Poll(a, b, c),
+        0x0B => Instruction::Sandbox(a, b, c),
+        0x0C => Instruction::Identity(a, b),
         _ => Instruction::Count(a),
     }
 }

@@ -1,4 +1,6 @@
 // The number that refuses an image, and what is read of an accepted one alone: each slot's record as the part that holds it.
+#![tactic(auto)]
+
 ghost use Rattle.std.specs.Prelude.{◌<◌, max, ◌≡◌};
 ghost use Rattle.wire.specs.Slices.{offset_by};
 ghost use Rattle.instruction.specs.Program.{count};

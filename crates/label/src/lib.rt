@@ -1,4 +1,6 @@
 // Labels as masks of owners: the subset test and the join.
+#![tactic(auto)]
+
 ghost use Rattle.std.specs.Prelude.{◌≡◌};
 ghost use Rattle.label.specs.Label.{is_subset, flows, join};
 

@@ -18,8 +18,8 @@ pub record Examples : Type 0 where
   pub accepted : (part_number program ≡ 0) × (lines_number lines ≡ 0)
   -- the words of the table's first and last row, and of the longest line
   pub words : (listing_text (line 0x00 0 0 0 ∷ []) ≡ ascii "end 0 0 0\n")
-      × (listing_text (line 0x0_c 0 1 0 ∷ []) ≡ ascii "self 0 1 0\n")
-      × (listing_text (line 0x0_b 7 255 15 ∷ []) ≡ ascii "sandbox 7 255 15\n")
+      × (listing_text (line 0x0C 0 1 0 ∷ []) ≡ ascii "self 0 1 0\n")
+      × (listing_text (line 0x0B 7 255 15 ∷ []) ≡ ascii "sandbox 7 255 15\n")
   -- the empty text is a list, of no line
   pub empty : listing_text [] ≡ []
   -- "Zero lines, or more than 256, is number 5"
@@ -31,4 +31,4 @@ pub record Examples : Type 0 where
       × (lines_number (line 0x05 0 0 0 ∷ []) ≡ 0)
       × (lines_number (line 0x05 1 0 0 ∷ []) ≡ 6)
   -- the lister: no instruction, a part of one, a code that is in no row, a target that is not below 1
-  pub refused : (part_number [] ≡ 5) × (part_number (0 ∷ 0 ∷ 0 ∷ []) ≡ 5) × (part_number (0x0_e ∷ 0 ∷ 0 ∷ 0 ∷ []) ≡ 6) × (part_number (0x05 ∷ 1 ∷ 0 ∷ 0 ∷ []) ≡ 6)
+  pub refused : (part_number [] ≡ 5) × (part_number (0 ∷ 0 ∷ 0 ∷ []) ≡ 5) × (part_number (0x0E ∷ 0 ∷ 0 ∷ 0 ∷ []) ≡ 6) × (part_number (0x05 ∷ 1 ∷ 0 ∷ 0 ∷ []) ≡ 6)

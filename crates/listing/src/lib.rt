@@ -1,5 +1,7 @@
 // Programs as text: `assemble`, the writer, turns lines of instructions into the program part of an image, and `disassemble`, the
 // lister, turns it back.
+#![tactic(auto)]
+
 ghost use Rattle.std.specs.Prelude.{◌≤◌, min, ◌≡◌, length};
 ghost use Rattle.wire.specs.Output.{overwrite};
 ghost use Rattle.wire.specs.Inner.{written};

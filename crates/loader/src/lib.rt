@@ -1,4 +1,6 @@
 // Loading: the tasks of an accepted image put into the table.
+#![tactic(auto)]
+
 ghost use Rattle.std.specs.Prelude.{◌/◌, ◌≤◌, ◌<◌, ◌≡◌, length, set};
 ghost use Rattle.planes.specs.Planes.{planes_of};
 ghost use Rattle.machine.specs.State.{used, with_mailbox};

@@ -1,6 +1,8 @@
 // The program `lookprobe`, for tests alone: reads an image from standard input and prints what the count of each label's messages
 // tells of each slot, and nothing of an image that is refused. It is not installed: what it prints depends on messages whatever their
 // labels, so no observer may have it.
+#![tactic(auto)]
+
 ghost use Rattle.std.specs.Prelude.{◌<◌};
 
 // More than any image has, so that a longer input is seen to be longer.

@@ -45,13 +45,13 @@ pub record Traps : Type 0 where
   -- a sender that learns of its receiver: the receiver is hidden
   pub told : ShownAlike 0 (state (send 2 1) 0 (task 0 0) 2 (task 1 0))
   -- a child in the lowest unused slot: a hidden task stands in slot 0
-  pub child : ShownAlike 0 (state (0x0_b ∷ 0 ∷ 0 ∷ 2 ∷ []) 5 (task 0 4) 0 (task 1 0))
+  pub child : ShownAlike 0 (state (0x0B ∷ 0 ∷ 0 ∷ 2 ∷ []) 5 (task 0 4) 0 (task 1 0))
   -- slots without a live task skipped: the next live task is hidden
   pub skipped : ShownAlike 0 (state (0x01 ∷ 0 ∷ 0 ∷ 0 ∷ []) 0 (task 0 0) 1 (task 1 0))
   -- the oldest message taken and its label tested then: the oldest is hidden
   pub oldest : ShownAlike 0 (state (0x09 ∷ 0 ∷ 1 ∷ 0 ∷ []) 0 (with_mailbox (message 1 ∷ message 0 ∷ []) (task 0 0)) 2 (task 1 0))
   -- a count of all messages: one of two is hidden
-  pub counted : ShownAlike 0 (state (0x0_d ∷ 0 ∷ 0 ∷ 0 ∷ []) 0 (with_mailbox (message 1 ∷ message 0 ∷ []) (task 0 0)) 2 (task 1 0))
+  pub counted : ShownAlike 0 (state (0x0D ∷ 0 ∷ 0 ∷ 0 ∷ []) 0 (with_mailbox (message 1 ∷ message 0 ∷ []) (task 0 0)) 2 (task 1 0))
   -- a send that skips its label check: the sender is hidden
   pub unchecked : ShownAlike 0 (state (send 1 0) 0 (task 1 0) 1 (task 0 0))
   -- a raise that replaces the label: the task is hidden from the observer of label 2

@@ -56,7 +56,7 @@ took_post = next (with_register 4 16 (with_register 3 9 receiver))
 -- ---- a sandbox of size n: the child starts at place 0, and its slot goes to register 0
 
 abbrev pub sandbox : ℕ → List ℕ
-sandbox n = 0x0_b ∷ 0 ∷ 0 ∷ n ∷ []
+sandbox n = 0x0B ∷ 0 ∷ 0 ∷ n ∷ []
 
 abbrev pub parent : Task
 parent = task 0 4 0
@@ -95,7 +95,7 @@ visible turns_before value = record { turns_before = turns_before; slot = 5; lab
 -- ---- counts: register 3 gets the number
 
 abbrev pub counting : List ℕ
-counting = 0x0_d ∷ 3 ∷ 0 ∷ 0 ∷ []
+counting = 0x0D ∷ 3 ∷ 0 ∷ 0 ∷ []
 
 -- a task of this label with messages of labels 2, 0 and 2
 abbrev pub backlog : ℕ → Task

@@ -1,5 +1,7 @@
 // How every call ends: what it tells. What the calls mean and what is claimed of them stands in specs/; their code is in the crates
 // above.
+#![tactic(auto)]
+
 ghost use Rattle.std.specs.Prelude.{◌≡◌};
 ghost use Rattle.monitor.specs.Calls.{refusal, output_answer};
 

@@ -1,4 +1,6 @@
 // Words with a bit for each of 64 messages: sets of messages, and planes, which hold the labels.
+#![tactic(auto)]
+
 ghost use Rattle.std.specs.Prelude.{◌≡◌, ◌+◌, ◌-◌, ◌*◌, ◌^◌, ◌<◌, ◌≤◌, [], if◌then◌else◌, nat_eq, nat_le};
 ghost use Rattle.label.specs.Label.{bit};
 ghost use Rattle.planes.specs.Planes.{without_lowest, Bits, behind_gap, Fits, ahead, planes_of};

@@ -2,6 +2,8 @@
 // listing's, and what the call tells to the caller. A `&[u8]` is a pointer and then a length. Each that tells a number promises as
 // well that what it was lent as image, text or program is bytes: of an image number 0 then makes an accepted one, and of a program the
 // claims ask for it. A post promises too that its value fits into 32 bits, which the secrecy rule asks of it.
+#![tactic(auto)]
+
 ghost use Rattle.std.specs.Prelude.{◌≡◌, cond};
 ghost use Rattle.wire.specs.Lists.{Bytes};
 ghost use Rattle.image.specs.Refusal.{image_number};

@@ -1,4 +1,6 @@
 // What is looked for in a mailbox: the messages of a label or those that flow to one, as a set, and what the set tells.
+#![tactic(auto)]
+
 ghost use Rattle.std.specs.Prelude.{◌<◌, ◌≤◌, ◌≡◌, cond, eqb};
 ghost use Rattle.label.specs.Label.{flows};
 ghost use Rattle.planes.specs.Planes.{Bits, set_of, label_from};

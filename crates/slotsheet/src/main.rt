@@ -1,4 +1,5 @@
 // The program `slotsheet`: reads one observer byte and an image from standard input and prints the observer sheet.
+#![tactic(auto)]
 
 // One byte more than the program takes, so that a longer input is seen to be longer.
 const READ_MAX: usize = sheet::INPUT_MAX + 1;

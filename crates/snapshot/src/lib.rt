@@ -1,4 +1,6 @@
 // Snapshots: the table written as an image for an observer.
+#![tactic(auto)]
+
 ghost use Rattle.std.specs.Prelude.{◌+◌, ◌≤◌, ◌<◌, ◌≡◌, [], ◌∷◌, ◌++◌, length};
 ghost use Rattle.wire.specs.Numbers.{encode_number};
 ghost use Rattle.wire.specs.Items.{encode_items};

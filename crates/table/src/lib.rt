@@ -1,6 +1,8 @@
 // The working storage of a call: sixteen slots of 84 words each, lent to the call and touched by slot and field only.
 // Nothing is tested here that a caller knows: that a slot is one of the sixteen or is used, a register one of the eight, a
 // message in the mailbox, and a label one of four bits.
+#![tactic(auto)]
+
 ghost use Rattle.std.specs.Prelude.{◌+◌, ◌*◌, ◌<◌, ◌≤◌, ◌%◌, ◌≡◌, length, get_or, set};
 ghost use Rattle.label.specs.Label.{bit};
 ghost use Rattle.planes.specs.Planes.{label_from, plane_of};

@@ -1,4 +1,6 @@
 // Text as bytes: numbers in decimal and lines of them, written at the front of an output that has room, and numbers that are read.
+#![tactic(auto)]
+
 ghost use Rattle.std.specs.Prelude.{◌≤◌, min, ◌≡◌, length};
 ghost use Rattle.wire.specs.Lists.{all};
 ghost use Rattle.wire.specs.Items.{encode_items};

@@ -1,4 +1,6 @@
 // Turns over the table: the turn of a slot, rounds, and a run of turns. They rest on a valid state.
+#![tactic(auto)]
+
 ghost use Rattle.std.specs.Prelude.{◌+◌, ◌-◌, ◌%◌, ◌≤◌, ◌<◌, min, max, ◌≡◌, true};
 ghost use Rattle.label.specs.Label.{flows, join};
 ghost use Rattle.machine.specs.State.{slot_at, has_live_task};

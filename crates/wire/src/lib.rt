@@ -1,5 +1,7 @@
 // Bytes: numbers read from the front of a part and written at the front of one. Definitions in specs/ and laws in
 // proofs/ are cited by every other crate.
+#![tactic(auto)]
+
 ghost use Rattle.std.specs.Prelude.{◌<◌, ◌≤◌, min, ◌≡◌, [], ◌∷◌, eqb, length, get_or, take, drop};
 ghost use Rattle.wire.specs.Numbers.{decode_number, encode_number};
 ghost use Rattle.wire.specs.Lists.{first_index};

@@ -1,4 +1,6 @@
 // The words of the instructions: each is written by its code, and a code is found by its word.
+#![tactic(auto)]
+
 ghost use Rattle.std.specs.Prelude.{◌≤◌, ◌≡◌, length};
 ghost use Rattle.wire.specs.Output.{overwrite};
 ghost use Rattle.wire.specs.Inner.{same};
@@ -24,10 +26,10 @@ pub fn put(out: &mut [u8], code: u8) -> usize
         0x07 => text::put(out, b"raise"),
         0x08 => text::put(out, b"send"),
         0x09 => text::put(out, b"take"),
-        0x0_a => text::put(out, b"poll"),
-        0x0_b => text::put(out, b"sandbox"),
-        0x0_c => text::put(out, b"self"),
-        0x0_d => text::put(out, b"count"),
+        0x0A => text::put(out, b"poll"),
+        0x0B => text::put(out, b"sandbox"),
+        0x0C => text::put(out, b"self"),
+        0x0D => text::put(out, b"count"),
         _ => 0,
     }
 }

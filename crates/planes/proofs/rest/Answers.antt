@@ -1,0 +1,6 @@
+-- `planes::rest` meets its contract: of an empty set nothing is left.
+use Rattle.std.proofs.Common.{◌≡◌, refl, arith}
+use Rattle.planes.proofs.rest.Goals as goal
+
+pub returns-then-set-eq0 : goal.returns-then-set-eq0
+returns-then-set-eq0 c = let none : c.args.set ≡ 0 = omega arith in rw none
