@@ -9,4 +9,4 @@ pub returns : goal.returns
 returns c =
     let a = c.args in
     bits_spread c.wrapping_sub_u64.result (bit a.b a.label) c.wrapping_sub_u64.type_inv (bit_lt a.b a.label)
-    (rw c.bit_of.ensures at c.wrapping_sub_u64.ensures)
+    (rw c.bit_of.ensures at c.wrapping_sub_u64.ensures.value)

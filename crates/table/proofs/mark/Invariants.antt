@@ -1,0 +1,13 @@
+-- `table::mark` meets its contract: the first b planes are changed.
+use Prim.Native.Nat.{◌-◌, ◌≤◌}
+use mathlib.Core.Path.{◌≡◌}
+use native.Mathlib.Omega.{arith}
+use Rattle.table.specs.Words.{SlotChanged, Planed, WithBit}
+use Rattle.table.proofs.Planes.{planes_none, planes_more}
+use Rattle.table.proofs.mark.Given as goal
+
+abbrev pub invariant-loop-b : goal.invariant-loop-b
+invariant-loop-b l = (l.b ≤ 4) × SlotChanged l.s (Planed l.b (WithBit l.n l.label)) l.initial.t l.t
+
+abbrev pub decreases-loop-b : goal.decreases-loop-b
+decreases-loop-b l = 4 - l.b

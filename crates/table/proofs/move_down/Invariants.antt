@@ -1,0 +1,13 @@
+-- `table::move_down` meets its contract: the messages behind message i, up to message k, have moved.
+use Prim.Native.Nat.{◌+◌, ◌-◌, ◌≤◌, ◌<◌}
+use mathlib.Core.Path.{◌≡◌}
+use native.Mathlib.Omega.{arith}
+use Rattle.table.specs.Words.{SlotChanged, Moved, down}
+use Rattle.table.proofs.Ring.{ring_none, ring_more, down_none, down_here, down_other}
+use Rattle.table.proofs.move_down.Given as goal
+
+abbrev pub invariant-loop-k : goal.invariant-loop-k
+invariant-loop-k l = (l.i < l.k) × (l.k ≤ l.n) × SlotChanged l.s (Moved l.start (down l.i l.k)) l.initial.t l.t
+
+abbrev pub decreases-loop-k : goal.decreases-loop-k
+decreases-loop-k l = l.n - l.k

@@ -1,0 +1,13 @@
+-- `table::move_up` meets its contract: the messages ahead of message i, from message k on, have moved.
+use Prim.Native.Nat.{◌-◌, ◌≤◌}
+use mathlib.Core.Path.{◌≡◌}
+use native.Mathlib.Omega.{arith}
+use Rattle.table.specs.Words.{SlotChanged, Moved, up}
+use Rattle.table.proofs.Ring.{ring_none, ring_more, up_none, up_here, up_other}
+use Rattle.table.proofs.move_up.Given as goal
+
+abbrev pub invariant-loop-k : goal.invariant-loop-k
+invariant-loop-k l = (l.k ≤ l.i) × SlotChanged l.s (Moved l.start (up l.i l.k)) l.initial.t l.t
+
+abbrev pub decreases-loop-k : goal.decreases-loop-k
+decreases-loop-k l = l.k

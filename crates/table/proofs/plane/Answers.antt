@@ -1,0 +1,12 @@
+-- `table::plane` meets its contract: a plane has a word of its own.
+use borrow.Author.Rules.{rules}
+use mathlib.Core.Path.{sym, ◌∙◌}
+use native.Mathlib.Omega.{arith}
+use lib.Seq.{get_or-drop}
+use Rattle.table.specs.Table.{window}
+use Rattle.table.proofs.plane.Goals as goal
+
+pub returns : goal.returns
+returns c =
+    let a = c.args in
+    c.word.ensures ∙ sym (get_or-drop 16 (window a.t.now a.s) a.b 0)
