@@ -28,29 +28,29 @@ use Rattle.calls.proofs.view.Symbol as ViewCode
 use Rattle.calls.proofs.view.Met as ViewMet
 
 module _ {M : Type 1} where
-  pub check_keeps : Keeps M Check.ended CheckCode.routine (λ κs a r e. r ≡ image_number (image_of a).now)
+  pub check_keeps : Keeps M Check.ended CheckCode.code CheckCode.name (λ κs a r e. r ≡ image_number (image_of a).now)
   check_keeps = CheckMet.met
 
-  pub record_keeps : Keeps M Record.ended RecordCode.routine
+  pub record_keeps : Keeps M Record.ended RecordCode.code RecordCode.name
       (λ κs a r e. (r.now ≡ record_part (image_of a).now (slot_number_of a))
       × (r.ref_ptr ≡ offset_by (record_extent (image_of a).now (slot_number_of a)).start (image_of a).ref_ptr))
   record_keeps = RecordMet.met
 
-  pub record_extent_keeps : Keeps M RecordExtent.ended RecordExtentCode.routine (λ κs a r e. r ≡ record_extent (image_of a).now (slot_number_of a))
+  pub record_extent_keeps : Keeps M RecordExtent.ended RecordExtentCode.code RecordExtentCode.name (λ κs a r e. r ≡ record_extent (image_of a).now (slot_number_of a))
   record_extent_keeps = RecordExtentMet.met
 
-  pub rewrite_keeps : Keeps M Rewrite.ended RewriteCode.routine
+  pub rewrite_keeps : Keeps M Rewrite.ended RewriteCode.code RewriteCode.name
       (λ κs a r e. CallPromise (rewrite_call (image_of a).now) (sole_output_of a).now r (sole_output_of e).now)
   rewrite_keeps = RewriteMet.met
 
-  pub turns_keeps : Keeps M Turns.ended TurnsCode.routine
+  pub turns_keeps : Keeps M Turns.ended TurnsCode.code TurnsCode.name
       (λ κs a r e. CallPromise (turns_call (count_of a) (image_of a).now) (output_of a).now r (output_of e).now)
   turns_keeps = TurnsMet.met
 
-  pub post_keeps : Keeps M Post.ended PostCode.routine
+  pub post_keeps : Keeps M Post.ended PostCode.code PostCode.name
       (λ κs a r e. PostPromise (slot_number_of a) (label_of a) (value_of a) (image_of a).now (post_output_of a).now r (post_output_of e).now)
   post_keeps = PostMet.met
 
-  pub view_keeps : Keeps M View.ended ViewCode.routine
+  pub view_keeps : Keeps M View.ended ViewCode.code ViewCode.name
       (λ κs a r e. CallPromise (view_call (observer_of a) (image_of a).now) (output_of a).now r (output_of e).now)
   view_keeps = ViewMet.met

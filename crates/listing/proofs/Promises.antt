@@ -10,10 +10,10 @@ use Rattle.listing.proofs.disassemble.Symbol as DisassembleCode
 use Rattle.listing.proofs.disassemble.Met as DisassembleMet
 
 module _ {M : Type 1} where
-  pub assemble_keeps : Keeps M Assemble.ended AssembleCode.routine
+  pub assemble_keeps : Keeps M Assemble.ended AssembleCode.code AssembleCode.name
       (λ κs a r e. AssemblePromise (input_of a).now (sole_output_of a).now r (sole_output_of e).now)
   assemble_keeps = AssembleMet.met
 
-  pub disassemble_keeps : Keeps M Disassemble.ended DisassembleCode.routine
+  pub disassemble_keeps : Keeps M Disassemble.ended DisassembleCode.code DisassembleCode.name
       (λ κs a r e. CallPromise (disassemble_call (input_of a).now) (sole_output_of a).now r (sole_output_of e).now)
   disassemble_keeps = DisassembleMet.met

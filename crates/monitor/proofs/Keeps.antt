@@ -1,8 +1,9 @@
 -- What it means that the code of a function keeps a promise, and the names by which a promise speaks of its arguments.
 use seplogic.Ra.Ura.{Ura}
 use base.Logic.{emp}
+use mir.Syntax.{Callee}
 use prog.Model.{Model}
-use prog.Routine.{Routine}
+use prog.Wired.{Code, Wired}
 use types.Logic.{Logic}
 use contract.Monad.{fact}
 use contract.Lifetimes.{Lfts}
@@ -15,13 +16,14 @@ use denote.Triple.Clauses.{Ended, AtExit, closing}
 abbrev pub Fact : Ended → Type 1
 Fact f = (κs : Lfts f.signature.lifetimes) → Args f.signature κs → Res f.signature κs → AtExit f κs → Type 0
 
--- The code requires nothing, and ends with the fact. A law of this form is the function's own theorem, held to the type that is
--- written there: with another promise, or with a precondition, the two types would differ. In such a law a are the arguments, r is
--- the result, and e are the arguments at the end.
-abbrev pub Keeps : Type 1 → (f : Ended) → Routine → Fact f → Type 2
-Keeps M f code Q =
+-- The code requires nothing, and ends with the fact: so does a call of the name wherever that names the code. A law of this form is the
+-- function's own theorem, held to the type that is written there: with another promise, or with a precondition, the two types would differ.
+-- In such a law a are the arguments, r is the result, and e are the arguments at the end.
+abbrev pub Keeps : Type 1 → (f : Ended) → Code → Callee → Fact f → Type 2
+Keeps M f code name Q =
     (𝓤 : Ura M) (𝓛 : Logic 𝓤) (𝓜 : Model 𝓤 𝓛.H) (𝓡 : Running 𝓤 𝓛.H 𝓜)
-    → Meets 𝓛 f.signature (𝓡.run code)
+    → Wired 𝓡.env code
+    → Meets 𝓛 f.signature (𝓡.run (𝓡.env name))
     (closing 𝓛 f (λ κs a. record { ghost = Unit {0}; requires = λ g. emp 𝓤; ensures = λ g r e. fact 𝓤 (Q κs a r e) }))
 
 -- ---- the arguments of a function by name: the image, what is asked for, the output

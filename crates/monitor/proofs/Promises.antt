@@ -16,10 +16,10 @@ use Rattle.monitor.proofs.answered.Symbol as AnsweredCode
 use Rattle.monitor.proofs.answered.Met as AnsweredMet
 
 module _ {M : Type 1} where
-  pub refused_keeps : Keeps M Refused.ended RefusedCode.routine (λ κs a r e. r ≡ refusal (number_of a))
+  pub refused_keeps : Keeps M Refused.ended RefusedCode.code RefusedCode.name (λ κs a r e. r ≡ refusal (number_of a))
   refused_keeps = RefusedMet.met
 
-  pub answered_keeps : Keeps M Answered.ended AnsweredCode.routine (λ κs a r e. r ≡ output_answer (size_of a) (busy_of a) (room_of a))
+  pub answered_keeps : Keeps M Answered.ended AnsweredCode.code AnsweredCode.name (λ κs a r e. r ≡ output_answer (size_of a) (busy_of a) (room_of a))
   answered_keeps = AnsweredMet.met
 
 -- ---- lists of calls that keep the promises: none, and one with any output ahead of others

@@ -67,43 +67,43 @@ abbrev delivered_of : {A B C D E F G H : Type 0} → A × (B × (C × (D × (E �
 delivered_of a = a.1.1.1.1.1.1.0
 
 module _ {M : Type 1} where
-  pub rithennaw_check_keeps : Keeps M Check.ended CheckCode.routine (λ κs a r e. (r ≡ image_number (image_of a).now) × Bytes (image_of a).now)
+  pub rithennaw_check_keeps : Keeps M Check.ended CheckCode.code CheckCode.name (λ κs a r e. (r ≡ image_number (image_of a).now) × Bytes (image_of a).now)
   rithennaw_check_keeps = CheckMet.met
 
-  pub rithennaw_record_keeps : Keeps M Record.ended RecordCode.routine
+  pub rithennaw_record_keeps : Keeps M Record.ended RecordCode.code RecordCode.name
       (λ κs a r e. ((start_of e).now ≡ (record_extent (image_of a).now (slot_number_of a)).start)
       × ((length_of e).now ≡ (record_extent (image_of a).now (slot_number_of a)).length))
   rithennaw_record_keeps = RecordMet.met
 
-  pub rithennaw_rewrite_keeps : Keeps M Rewrite.ended RewriteCode.routine
+  pub rithennaw_rewrite_keeps : Keeps M Rewrite.ended RewriteCode.code RewriteCode.name
       (λ κs a r e. Told (image_of a).now (rewrite_call (image_of a).now) (sole_output_of a).now r (sole_length_of e).now (sole_output_of e).now)
   rithennaw_rewrite_keeps = RewriteMet.met
 
-  pub rithennaw_turns_keeps : Keeps M Turns.ended TurnsCode.routine
+  pub rithennaw_turns_keeps : Keeps M Turns.ended TurnsCode.code TurnsCode.name
       (λ κs a r e. Told (image_of a).now (turns_call (count_of a) (image_of a).now) (output_of a).now r (length_of e).now (output_of e).now
       × ((busy_of e).now ≡ (call_answer (turns_call (count_of a) (image_of a).now) (output_of a).now).busy))
   rithennaw_turns_keeps = TurnsMet.met
 
-  pub rithennaw_post_keeps : Keeps M Post.ended PostCode.routine
+  pub rithennaw_post_keeps : Keeps M Post.ended PostCode.code PostCode.name
       (λ κs a r e. Told (image_of a).now (post_call (slot_number_of a) (label_of a) (value_of a) (image_of a).now) (post_output_of a).now r (post_length_of e).now (post_output_of e).now
       × ((delivered_of e).now ≡ cond (post_delivered (slot_number_of a) (label_of a) (value_of a) (image_of a).now (post_output_of a).now) 1 0)
       × Fits (ask_post (slot_number_of a) (label_of a) (value_of a)))
   rithennaw_post_keeps = PostMet.met
 
-  pub rithennaw_view_keeps : Keeps M View.ended ViewCode.routine
+  pub rithennaw_view_keeps : Keeps M View.ended ViewCode.code ViewCode.name
       (λ κs a r e. Told (image_of a).now (view_call (observer_of a) (image_of a).now) (output_of a).now r (length_of e).now (output_of e).now)
   rithennaw_view_keeps = ViewMet.met
 
-  pub rithennaw_sheet_keeps : Keeps M Sheet.ended SheetCode.routine
+  pub rithennaw_sheet_keeps : Keeps M Sheet.ended SheetCode.code SheetCode.name
       (λ κs a r e. Told (image_of a).now (sheet_call (observer_of a) (image_of a).now) (output_of a).now r (length_of e).now (output_of e).now)
   rithennaw_sheet_keeps = SheetMet.met
 
-  pub rithennaw_assemble_keeps : Keeps M Assemble.ended AssembleCode.routine
+  pub rithennaw_assemble_keeps : Keeps M Assemble.ended AssembleCode.code AssembleCode.name
       (λ κs a r e. AssemblePromise (input_of a).now (sole_output_of a).now (record { number = r; length = (sole_length_of e).now; busy = 0 }) (sole_output_of e).now
       × Bytes (input_of a).now)
   rithennaw_assemble_keeps = AssembleMet.met
 
-  pub rithennaw_disassemble_keeps : Keeps M Disassemble.ended DisassembleCode.routine
+  pub rithennaw_disassemble_keeps : Keeps M Disassemble.ended DisassembleCode.code DisassembleCode.name
       (λ κs a r e. Told (input_of a).now (disassemble_call (input_of a).now) (sole_output_of a).now r (sole_length_of e).now (sole_output_of e).now)
   rithennaw_disassemble_keeps = DisassembleMet.met
 

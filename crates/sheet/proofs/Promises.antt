@@ -15,11 +15,11 @@ use Rattle.sheet.proofs.print.Symbol as PrintCode
 use Rattle.sheet.proofs.print.Met as PrintMet
 
 module _ {M : Type 1} where
-  pub write_keeps : Keeps M Write.ended WriteCode.routine
+  pub write_keeps : Keeps M Write.ended WriteCode.code WriteCode.name
       (λ κs a r e. CallPromise (sheet_call (observer_of a) (image_of a).now) (output_of a).now r (output_of e).now)
   write_keeps = WriteMet.met
 
-  pub print_keeps : Keeps M Print.ended PrintCode.routine
+  pub print_keeps : Keeps M Print.ended PrintCode.code PrintCode.name
       (λ κs a r e. (r ≡ length (printed (input_of a).now))
       × (r ≤ sheet_room)
       × ((sole_output_of e).now ≡ overwrite (printed (input_of a).now) (sole_output_of a).now))

@@ -1,0 +1,16 @@
+-- `loader::label_planes` meets its contract: the labels from message i on are gathered.
+use Prim.Native.Nat.{ℕ, ◌+◌, ◌*◌, ◌-◌, ◌/◌, ◌≤◌}
+use mathlib.Core.Path.{◌≡◌, ap, ◌∙◌}
+use native.Mathlib.Omega.{arith}
+use lib.ListN.{length, get_or, drop}
+use Rattle.planes.specs.Planes.{ahead, planes_of}
+use Rattle.planes.proofs.Gathered.{planes_fit}
+use Rattle.loader.specs.Loading.{labels_of}
+use Rattle.loader.proofs.Loading.{labels_none, labels_next, labels_left}
+use Rattle.loader.proofs.label_planes.Given as goal
+
+abbrev pub invariant-loop-i : goal.invariant-loop-i
+invariant-loop-i l = (l.i ≤ length l.mailbox / 6) × (l.gathered ≡ planes_of (drop l.i (labels_of l.mailbox)))
+
+abbrev pub decreases-loop-i : goal.decreases-loop-i
+decreases-loop-i l = l.i

@@ -1,0 +1,22 @@
+-- `search::flowing` meets its contract: the bits of those messages are 1 where a message has one of the first b bits that the label has not.
+use Prim.Native.Nat.{ℕ, ◌-◌}
+use mathlib.Core.Bool.{Bool}
+use mathlib.Core.List.{List}
+use native.Mathlib.Omega.{arith}
+use lib.Dec.{leb}
+use Rattle.label.specs.Label.{bit, flows}
+use Rattle.planes.specs.Planes.{label_from}
+use Rattle.planes.proofs.Tests.{Failed, failed_none, failed_more, all_passed}
+use Rattle.planes.proofs.Labels.{label_flows}
+use Rattle.table.specs.Table.{window, plane_in}
+use Rattle.search.proofs.flowing.Given as goal
+
+-- message i passes at plane b
+abbrev pub test : List ℕ → ℕ → ℕ → ℕ → Bool
+test w label i b = leb (bit i (plane_in w b)) (bit b label)
+
+abbrev pub invariant-loop-b : goal.invariant-loop-b
+invariant-loop-b l = Failed (test (window l.t l.s) l.label) l.b l.hidden
+
+abbrev pub decreases-loop-b : goal.decreases-loop-b
+decreases-loop-b l = 4 - l.b
