@@ -18,7 +18,7 @@ pub const LISTING_MAX: usize = 4352;
 // ---- the writer
 
 // A line that was read: its code, its numbers, each 256 where it is above 255, and how many bytes it has; 0 where no line was found.
-#[derive(Drop)]
+#[derive(Clone, Copy)]
 struct ReadLine {
     code: u8,
     a: usize,

@@ -25,7 +25,7 @@ pub returns-then-not-admitted : goal.returns-then-not-admitted
 returns-then-not-admitted c = rw (tests c.args.version c.args.b.now _ _ c.if-b-lt2.false c.record_length-l.ensures.0 c.is_record_length-admitted.ensures, c.if-not-admitted.true)
 
 pub returns-then-whole : goal.returns-then-whole
-returns-then-whole c = rw (tests c.args.version c.args.b.now _ _ c.if-b-lt2.false c.record_length-l.ensures.0 c.is_record_length-admitted.ensures, c.if-not-admitted.false, c.if-whole.true)
+returns-then-whole c = rw (tests c.args.version c.args.b.now _ _ c.if-b-lt2.false c.record_length-l.ensures.0 c.is_record_length-admitted.ensures, c.if-not-admitted.false, le-leb _ _ c.if-whole.true)
 
 pub returns-else-whole : goal.returns-else-whole
-returns-else-whole c = rw (tests c.args.version c.args.b.now _ _ c.if-b-lt2.false c.record_length-l.ensures.0 c.is_record_length-admitted.ensures, c.if-not-admitted.false, c.if-whole.false)
+returns-else-whole c = rw (tests c.args.version c.args.b.now _ _ c.if-b-lt2.false c.record_length-l.ensures.0 c.is_record_length-admitted.ensures, c.if-not-admitted.false, lt-leb _ _ c.if-whole.false)

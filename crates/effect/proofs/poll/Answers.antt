@@ -1,0 +1,22 @@
+-- `effect::poll` meets its contract: as take, and the place where nothing is receivable.
+use Rattle.std.proofs.Common.{sym, ◌∙◌}
+use Rattle.table.proofs.Slots.{used_slot}
+use Rattle.effect.proofs.Effects.{poll_some, poll_none, sound}
+use Rattle.effect.proofs.poll.Goals as goal
+
+pub returns-then-take : goal.returns-then-take
+returns-then-take c =
+    let took = c.take.ensures in
+    rw took.0 (poll_some c.requires.0 _ _ _ (sym took.1 ∙ c.if-take.true))
+
+pub returns : goal.returns
+returns c =
+    let took = c.take.ensures in
+    rw (c.set_pc.ensures, took.0)
+    (poll_none c.requires.0 _ _ _ (sym took.1 ∙ c.if-take.false))
+
+pub take-requires : goal.take-requires
+take-requires c = let s = sound c.requires.1 in (c.requires.0, s.0, s.1)
+
+pub set_pc-requires : goal.set_pc-requires
+set_pc-requires c = used_slot _ _ c.requires.0.goes.here

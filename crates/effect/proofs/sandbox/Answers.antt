@@ -1,0 +1,44 @@
+-- `effect::sandbox` meets its contract: the parent's change, then the child.
+use Rattle.std.proofs.Common.{refl, arith}
+use Rattle.machine.specs.State.{with_spare}
+use Rattle.table.proofs.Change.{change_change}
+use Rattle.table.proofs.Slots.{used_slot}
+use Rattle.effect.proofs.Effects.{sandbox_done, sandbox_stopped, goes_on, sound}
+use Rattle.effect.proofs.sandbox.Goals as goal
+
+pub gets-requires : goal.gets-requires
+gets-requires c =
+    rw c.set_spare.ensures (goes_on (with_spare _) (λ t. refl) c.requires.0.goes, (sound c.requires.1).0)
+
+pub spawn-requires : goal.spawn-requires
+spawn-requires c =
+    let spare = c.spare-spare in
+    let size = (sound c.requires.1).2.0 in
+    (omega (arith, spare.ensures, c.requires.0.spare, size), size)
+
+pub returns-then-c-spare : goal.returns-then-c-spare
+returns-then-c-spare c =
+    let spare = c.spare-spare in
+    let own = c.label-own in
+    let clearance = c.clearance-clearance in
+    rw (c.spawn.ensures, c.gets.ensures, c.set_spare.ensures, change_change)
+    (sandbox_done c.requires.0 _ _ _ spare.ensures (omega arith) own.ensures clearance.ensures refl refl)
+
+pub returns-else-c-spare : goal.returns-else-c-spare
+returns-else-c-spare c =
+    rw c.set_kind.ensures (sandbox_stopped c.requires.0 _ _ _ c.spare-spare.ensures (omega arith))
+
+pub spare-spare-requires : goal.spare-spare-requires
+spare-spare-requires c = c.requires.0.goes.here
+
+pub label-own-requires : goal.label-own-requires
+label-own-requires c = c.requires.0.goes.here
+
+pub clearance-clearance-requires : goal.clearance-clearance-requires
+clearance-clearance-requires c = c.requires.0.goes.here
+
+pub set_spare-requires : goal.set_spare-requires
+set_spare-requires c = used_slot _ _ c.requires.0.goes.here
+
+pub set_kind-requires : goal.set_kind-requires
+set_kind-requires c = c.requires.0.goes.here

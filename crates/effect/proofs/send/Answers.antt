@@ -1,0 +1,78 @@
+-- `effect::send` meets its contract: the place, then the message.
+use Rattle.std.proofs.Common.{◌≡◌, ℕ, List, sym, refl, ◌∙◌, true, arith}
+use Rattle.label.specs.Label.{flows}
+use Rattle.instruction.specs.declared.Instruction.TheVariants.{Send}
+use Rattle.machine.specs.State.{Message, Slot, Task, next, register}
+use Rattle.machine.specs.Effect.{deliver}
+use Rattle.machine.specs.Turn.{perform}
+use Rattle.table.specs.Table.{slots_in}
+use Rattle.table.specs.Change.{task_at, change}
+use Rattle.table.proofs.Change.{change_keeps}
+use Rattle.effect.specs.Effects.{executed, Ready, RoomFor, WasDecoded}
+use Rattle.effect.proofs.Effects.{accepts_room, deliver_joins, deliver_drops, send_done, send_stopped, sound}
+use Rattle.effect.proofs.send.Goals as goal
+
+-- ---- once the place has gone up
+
+-- there is room in every mailbox that had it
+room : (slot a b c : ℕ) (before after : List Slot) → Ready slot before → WasDecoded (Send a b c) → after ≡ change slot next before
+    → (to : ℕ) → RoomFor b (task_at after to).mailbox
+room slot a b c before after ready d e to = rw (e, change_keeps (λ t. t.mailbox) next (λ t. refl)) (ready.room _ _ (sound d).1)
+
+-- what is delivered is what the instruction does
+sent : (slot a b c own to value : ℕ) (before after : List Slot) → Ready slot before → after ≡ change slot next before
+    → own ≡ (task_at before slot).label → flows own b ≡ true → to ≡ register (task_at before slot) a → value ≡ register (task_at before slot) c
+    → perform (deliver to (record { label = b; sender = slot; value = value })) after ≡ executed (Send a b c) slot before
+sent slot a b c own to value before after ready e label admits receiver figure = rw e (send_done ready _ _ _ label admits receiver figure)
+
+pub append-requires : goal.append-requires
+append-requires c =
+    let a = c.args in
+    let to = c.register-to.result in
+    let slots = slots_in c.advance.new.table in
+    let space = room a.slot a.a a.b a.c (slots_in a.table.now) slots c.requires.0 c.requires.1 c.advance.ensures to in
+    let free = accepts_room slots to a.b (sym c.accepts.ensures ∙ c.if-accepts.true) space in
+    (free.0, free.1, space.0)
+
+pub returns-then-accepts : goal.returns-then-accepts
+returns-then-accepts c =
+    let a = c.args in
+    let to = c.register-to.result in
+    let slots = slots_in c.advance.new.table in
+    let m : Message = record { label = a.b; sender = a.slot; value = c.register-value.result } in
+    (deliver_joins slots to m (sym c.accepts.ensures ∙ c.if-accepts.true) c.append.ensures).0
+    ∙ sent a.slot a.a a.b a.c c.label.result to c.register-value.result (slots_in a.table.now) slots c.requires.0 c.advance.ensures c.label.ensures
+    (sym c.flows.ensures ∙ c.if-flows.true) c.register-to.ensures c.register-value.ensures
+
+pub returns-else-accepts : goal.returns-else-accepts
+returns-else-accepts c =
+    let a = c.args in
+    let to = c.register-to.result in
+    let slots = slots_in c.advance.new.table in
+    let m : Message = record { label = a.b; sender = a.slot; value = c.register-value.result } in
+    (deliver_drops slots to m (sym c.accepts.ensures ∙ c.if-accepts.false)).0
+    ∙ sent a.slot a.a a.b a.c c.label.result to c.register-value.result (slots_in a.table.now) slots c.requires.0 c.advance.ensures c.label.ensures
+    (sym c.flows.ensures ∙ c.if-flows.true) c.register-to.ensures c.register-value.ensures
+
+pub returns-else-flows : goal.returns-else-flows
+returns-else-flows c = rw c.set_kind.ensures (send_stopped c.requires.0 _ _ _ c.label.ensures (sym c.flows.ensures ∙ c.if-flows.false))
+
+pub label-requires : goal.label-requires
+label-requires c = c.requires.0.goes.here
+
+pub register-to-requires : goal.register-to-requires
+register-to-requires c = (c.requires.0.goes.here, (sound c.requires.1).0)
+
+pub register-value-requires : goal.register-value-requires
+register-value-requires c = (c.requires.0.goes.here, (sound c.requires.1).2)
+
+pub advance-requires : goal.advance-requires
+advance-requires c = c.requires.0.goes
+
+pub accepts-requires : goal.accepts-requires
+accepts-requires c =
+    let a = c.args in
+    (room a.slot a.a a.b a.c (slots_in a.table.now) (slots_in c.advance.new.table) c.requires.0 c.requires.1 c.advance.ensures c.register-to.result).0
+
+pub set_kind-requires : goal.set_kind-requires
+set_kind-requires c = c.requires.0.goes.here

@@ -1,0 +1,16 @@
+-- `snapshot::write_mailbox` meets its contract: the first i messages are written.
+use Prim.Native.Nat.{◌-◌, ◌*◌, ◌≤◌}
+use native.Mathlib.Omega.{arith}
+use Rattle.wire.proofs.Output.{ItemsWritten, items_none, item_part, items_more, items_all}
+use Rattle.table.specs.Table.{slots_in}
+use Rattle.machine.specs.State.{no_message}
+use Rattle.table.specs.Change.{task_at}
+use Rattle.snapshot.specs.Writing.{shown_message}
+use Rattle.snapshot.proofs.write_mailbox.Given as goal
+
+abbrev pub invariant-loop-i : goal.invariant-loop-i
+invariant-loop-i l =
+    (l.i ≤ l.count) × (l.at ≤ 6 * l.i) × ItemsWritten (shown_message l.observer) (task_at (slots_in l.table) l.slot).mailbox l.initial.out l.out l.at l.i
+
+abbrev pub decreases-loop-i : goal.decreases-loop-i
+decreases-loop-i l = l.count - l.i

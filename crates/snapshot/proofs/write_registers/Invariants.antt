@@ -1,0 +1,20 @@
+-- `snapshot::write_registers` meets its contract: the first a registers are written.
+use Prim.Native.Nat.{◌+◌, ◌-◌, ◌*◌, ◌≤◌}
+use mathlib.Core.Path.{◌≡◌, ◌∙◌}
+use native.Mathlib.Omega.{arith}
+use lib.ListN.{length, take, drop}
+use Rattle.wire.specs.Numbers.{encode_number}
+use Rattle.wire.specs.Items.{encode_items}
+use Rattle.machine.specs.State.{register}
+use Rattle.wire.proofs.Output.{written_fits, ItemsWritten, items_none, item_part, items_more, items_all}
+use Rattle.image.proofs.Records.{length_registers}
+use Rattle.table.specs.Table.{slots_in}
+use Rattle.table.specs.Change.{task_at}
+use Rattle.table.proofs.Slots.{used_registers}
+use Rattle.snapshot.proofs.write_registers.Given as goal
+
+abbrev pub invariant-loop-a : goal.invariant-loop-a
+invariant-loop-a l = (l.a ≤ 8) × ItemsWritten (encode_number 4) (task_at (slots_in l.table) l.slot).registers l.initial.out l.out (4 * l.a) l.a
+
+abbrev pub decreases-loop-a : goal.decreases-loop-a
+decreases-loop-a l = 8 - l.a
