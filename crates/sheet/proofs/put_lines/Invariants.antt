@@ -1,0 +1,12 @@
+-- `sheet::put_lines` meets its contract: the lines of the first slots are written.
+use Prim.Native.Nat.{◌-◌, ◌≤◌}
+use native.Mathlib.Omega.{arith}
+use Rattle.table.specs.Table.{slots_in}
+use Rattle.sheet.proofs.Shown.{LinesWritten, lines_none, line_room, line_part, lines_more, lines_size, lines_all}
+use Rattle.sheet.proofs.put_lines.Given as goal
+
+abbrev pub invariant-loop-slot : goal.invariant-loop-slot
+invariant-loop-slot l = (l.slot ≤ 16) × LinesWritten l.observer (slots_in l.table) l.initial.out l.out l.at l.slot
+
+abbrev pub decreases-loop-slot : goal.decreases-loop-slot
+decreases-loop-slot l = 16 - l.slot

@@ -1,0 +1,14 @@
+-- `turn::top` meets its contract: the slots ahead of the one at hand have been looked at.
+use Prim.Native.Nat.{◌≤◌, ◌-◌}
+use mathlib.Core.Path.{◌≡◌, ◌∙◌}
+use native.Mathlib.Omega.{arith}
+use Rattle.machine.specs.Inner.{top_of}
+use Rattle.machine.proofs.Bounds.{top_none, top_next}
+use Rattle.table.specs.Table.{slots_in}
+use Rattle.turn.proofs.top.Given as goal
+
+abbrev pub invariant-loop-slot : goal.invariant-loop-slot
+invariant-loop-slot l = (l.slot ≤ 16) × (l.top ≡ top_of l.slot (slots_in l.table))
+
+abbrev pub decreases-loop-slot : goal.decreases-loop-slot
+decreases-loop-slot l = 16 - l.slot
