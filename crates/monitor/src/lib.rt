@@ -6,7 +6,7 @@ ghost use Rattle.std.specs.Prelude.{◌≡◌};
 ghost use Rattle.monitor.specs.Calls.{refusal, output_answer};
 
 // What a call tells: the papers' number, 0 where it is accepted; the length of what it wrote; the turns that met a live task.
-#[derive(Drop)]
+#[derive(Clone, Copy)]
 pub struct Answer {
     pub number: u8,
     pub length: usize,
@@ -14,7 +14,7 @@ pub struct Answer {
 }
 
 // What a post tells: what every call that writes tells, and whether its message was delivered; where it was not, it was dropped.
-#[derive(Drop)]
+#[derive(Clone, Copy)]
 pub struct PostAnswer {
     pub answer: Answer,
     pub delivered: bool,
