@@ -65,13 +65,39 @@ module _ {s word : List ℕ} {code : ℕ} {a b c : Number} (p : Parts s word cod
   total : tests ≡ true → length word + 1 + a.length + b.length + c.length ≡ line_length s
   total e = rw (p.a_length, p.b_length, p.c_length, ← p.word_is) (sym (has_length s (met ∙ e)))
 
+pub overflow_add-n-then-code-a : goal.overflow_add-n-then-code-a
+overflow_add-n-then-code-a c =
+    let p = parts c.args.s.now c.take-word.result.now c.index_of.result c.code_of-code.result c.read_number-a.result c.read_number-b.result c.read_number-c.result
+    c.index_of.ensures c.take-word.ensures.0 c.code_of-code.ensures c.drop-behind_word.ensures.0 c.read_number-a.ensures c.drop-behind_a.ensures.0
+    c.read_number-b.ensures c.drop-behind_b.ensures.0 c.read_number-c.ensures in
+    omega (arith, inside p c.if-code-a.true, c.well_formed.0.0)
+
+pub overflow_add-n-then-code-a-2 : goal.overflow_add-n-then-code-a-2
+overflow_add-n-then-code-a-2 c =
+    let p = parts c.args.s.now c.take-word.result.now c.index_of.result c.code_of-code.result c.read_number-a.result c.read_number-b.result c.read_number-c.result
+    c.index_of.ensures c.take-word.ensures.0 c.code_of-code.ensures c.drop-behind_word.ensures.0 c.read_number-a.ensures c.drop-behind_a.ensures.0
+    c.read_number-b.ensures c.drop-behind_b.ensures.0 c.read_number-c.ensures in
+    omega (arith, inside p c.if-code-a.true, c.well_formed.0.0)
+
+pub overflow_add-n-then-code-a-3 : goal.overflow_add-n-then-code-a-3
+overflow_add-n-then-code-a-3 c =
+    let p = parts c.args.s.now c.take-word.result.now c.index_of.result c.code_of-code.result c.read_number-a.result c.read_number-b.result c.read_number-c.result
+    c.index_of.ensures c.take-word.ensures.0 c.code_of-code.ensures c.drop-behind_word.ensures.0 c.read_number-a.ensures c.drop-behind_a.ensures.0
+    c.read_number-b.ensures c.drop-behind_b.ensures.0 c.read_number-c.ensures in
+    omega (arith, inside p c.if-code-a.true, c.well_formed.0.0)
+
 pub returns-then-code-a : goal.returns-then-code-a
 unfolding line_at
-returns-then-code-a c = ?
+returns-then-code-a c =
+    let p = parts c.args.s.now c.take-word.result.now c.index_of.result c.code_of-code.result c.read_number-a.result c.read_number-b.result c.read_number-c.result
+    c.index_of.ensures c.take-word.ensures.0 c.code_of-code.ensures c.drop-behind_word.ensures.0 c.read_number-a.ensures c.drop-behind_a.ensures.0
+    c.read_number-b.ensures c.drop-behind_b.ensures.0 c.read_number-c.ensures in
+    rw c.made.ensures (p.code_is, p.a_value, p.b_value, p.c_value, total p c.if-code-a.true)
 
 pub returns-else-code-a : goal.returns-else-code-a
 unfolding line_at
-returns-else-code-a c = ?
-
-pub overflow_add-n-then-code-a : goal.overflow_add-n-then-code-a
-overflow_add-n-then-code-a c = ?
+returns-else-code-a c =
+    let p = parts c.args.s.now c.take-word.result.now c.index_of.result c.code_of-code.result c.read_number-a.result c.read_number-b.result c.read_number-c.result
+    c.index_of.ensures c.take-word.ensures.0 c.code_of-code.ensures c.drop-behind_word.ensures.0 c.read_number-a.ensures c.drop-behind_a.ensures.0
+    c.read_number-b.ensures c.drop-behind_b.ensures.0 c.read_number-c.ensures in
+    rw c.made-else-code-a.ensures (p.code_is, p.a_value, p.b_value, p.c_value, sym (has_none c.args.s.now (met p ∙ c.if-code-a.false)))
