@@ -10,7 +10,7 @@ use borrow.Author.Tests.{leb-true, le-leb, lt-leb, eq-eqb, ne_eqb}
 use lib.Dec.{leb}
 use lib.ListN.{length, get_or, drop, set, replicate, length-append, length-set, get_or-replicate}
 use lib.Seq.{get_or-set_same, get_or-set_other}
-use Rattle.wire.specs.Lists.{each, all}
+use Rattle.wire.specs.Lists.{all}
 use Rattle.wire.specs.Items.{decode_items}
 use Rattle.wire.proofs.Lists.{and_both, each_intro, each_fails, keep_append, all_append}
 use Rattle.wire.proofs.Items.{decode_at, decode_more}

@@ -1,5 +1,5 @@
 -- What the table's private functions change in a slot's words.
-use Rattle.std.specs.Prelude.{ℕ, suc, ◌+◌, ◌-◌, ◌<◌, ◌≤◌, ◌≡◌, ◌≢◌, cond, List, ◌++◌, eqb, ltb, get_or, drop, replicate}
+use Rattle.std.specs.Prelude.{ℕ, suc, ◌-◌, ◌<◌, ◌≤◌, ◌≡◌, ◌≢◌, cond, List, ◌++◌, eqb, ltb, get_or, drop, replicate}
 use Rattle.label.specs.Label.{bit}
 use Rattle.planes.specs.Planes.{Bits, behind_gap}
 use Rattle.machine.specs.State.{Message}

@@ -25,7 +25,7 @@ returns-then-number-eq0 c =
     let words = c.load.new.table in
     let same = ap (λ (s : ℕ). snapshot_bytes words image s a.observer) c.turn_slot-turn.ensures ∙ view_written image words a.observer c.load.ensures in
     let seen = le-leb a.observer highest_label (omega arith) in
-    call_accepted _ _ (rw seen) (accepted) same refl c.write_answer.ensures
+    call_accepted _ _ (rw seen) accepted same refl c.write_answer.ensures
 
 -- a refused one
 pub returns-else-number-eq0 : goal.returns-else-number-eq0
@@ -34,6 +34,4 @@ returns-else-number-eq0 c =
     call_refused _ _ (rw seen) c.number-number.ensures c.if-number-eq0.false c.refused-else-number-eq0.ensures
 
 pub load-requires : goal.load-requires
-load-requires c = 
-    let accepted : image_number c.args.image.now ≡ 0 = sym c.number-number.ensures ∙ c.if-number-eq0.true in
-    accepted
+load-requires c = sym c.number-number.ensures ∙ c.if-number-eq0.true

@@ -5,8 +5,7 @@ use Rattle.effect.proofs.Effects.{decoded_as, sound, by_form}
 use Rattle.effect.proofs.execute.Goals as goal
 
 pub gets-requires : goal.gets-requires
-gets-requires c =
-    (c.requires.0.goes, (sound (decoded_as c.requires.1 c.in-Set.is)).0)
+gets-requires c = (c.requires.0.goes, (sound (decoded_as c.requires.1 c.in-Set.is)).0)
 
 pub take-requires : goal.take-requires
 take-requires c =

@@ -7,8 +7,7 @@ use Rattle.effect.proofs.Effects.{identity_done, goes_on, sound}
 use Rattle.effect.proofs.identity.Goals as goal
 
 pub gets-requires : goal.gets-requires
-gets-requires c =
-    rw c.set_register.ensures (goes_on (with_register _ _) (λ t. refl) c.requires.0.goes, (sound c.requires.1).1)
+gets-requires c = rw c.set_register.ensures (goes_on (with_register _ _) (λ t. refl) c.requires.0.goes, (sound c.requires.1).1)
 
 pub returns : goal.returns
 returns c =

@@ -7,8 +7,7 @@ use Rattle.effect.proofs.Effects.{raise_done, raise_stopped, goes_on}
 use Rattle.effect.proofs.raise.Goals as goal
 
 pub advance-requires : goal.advance-requires
-advance-requires c =
-    rw c.set_label.ensures (goes_on (with_label _) (λ t. refl) c.requires.goes)
+advance-requires c = rw c.set_label.ensures (goes_on (with_label _) (λ t. refl) c.requires.goes)
 
 pub returns-then-is_subset : goal.returns-then-is_subset
 returns-then-is_subset c =

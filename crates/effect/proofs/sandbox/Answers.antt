@@ -7,8 +7,7 @@ use Rattle.effect.proofs.Effects.{sandbox_done, sandbox_stopped, goes_on, sound}
 use Rattle.effect.proofs.sandbox.Goals as goal
 
 pub gets-requires : goal.gets-requires
-gets-requires c =
-    rw c.set_spare.ensures (goes_on (with_spare _) (λ t. refl) c.requires.0.goes, (sound c.requires.1).0)
+gets-requires c = rw c.set_spare.ensures (goes_on (with_spare _) (λ t. refl) c.requires.0.goes, (sound c.requires.1).0)
 
 pub spawn-requires : goal.spawn-requires
 spawn-requires c =
@@ -25,8 +24,7 @@ returns-then-c-spare c =
     (sandbox_done c.requires.0 _ _ _ spare.ensures (omega arith) own.ensures clearance.ensures refl refl)
 
 pub returns-else-c-spare : goal.returns-else-c-spare
-returns-else-c-spare c =
-    rw c.set_kind.ensures (sandbox_stopped c.requires.0 _ _ _ c.spare-spare.ensures (omega arith))
+returns-else-c-spare c = rw c.set_kind.ensures (sandbox_stopped c.requires.0 _ _ _ c.spare-spare.ensures (omega arith))
 
 pub spare-spare-requires : goal.spare-spare-requires
 spare-spare-requires c = c.requires.0.goes.here

@@ -4,8 +4,7 @@ use Rattle.effect.proofs.Effects.{take_some, take_none}
 use Rattle.effect.proofs.take.Goals as goal
 
 pub take_message-requires : goal.take_message-requires
-take_message-requires c =
-    (c.requires.0.goes, rw (← c.mailbox_length.ensures.0) (omega arith), c.requires.1, c.requires.2)
+take_message-requires c = (c.requires.0.goes, rw (← c.mailbox_length.ensures.0) (omega arith), c.requires.1, c.requires.2)
 
 pub returns-then-i-mailbox_length : goal.returns-then-i-mailbox_length
 returns-then-i-mailbox_length c =

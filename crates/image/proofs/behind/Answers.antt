@@ -1,5 +1,4 @@
 -- `image::behind` meets its contract, by what it calls.
-use native.Mathlib.Omega.{arith}
 use Rattle.image.proofs.behind.Goals as goal
 
 pub returns : goal.returns

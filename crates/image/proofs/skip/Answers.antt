@@ -1,7 +1,5 @@
-use Prim.Native.Nat.{◌≤◌, ◌-◌}
 use mathlib.Core.Path.{◌≡◌, sym}
 use native.Mathlib.Omega.{arith}
-use Rattle.image.specs.Image.{skip}
 use Rattle.image.proofs.Walk.{skip_none, skip_next}
 use Rattle.image.proofs.skip.Goals as goal
 

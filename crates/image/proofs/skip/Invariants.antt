@@ -1,9 +1,7 @@
 -- `image::skip` meets its contract: the bytes that are left are those behind the slots passed.
 use Prim.Native.Nat.{◌≤◌, ◌-◌}
-use mathlib.Core.Path.{◌≡◌, sym}
-use native.Mathlib.Omega.{arith}
+use mathlib.Core.Path.{◌≡◌}
 use Rattle.image.specs.Image.{skip}
-use Rattle.image.proofs.Walk.{skip_none, skip_next}
 use Rattle.image.proofs.skip.Given as goal
 
 abbrev pub invariant-loop-slot : goal.invariant-loop-slot

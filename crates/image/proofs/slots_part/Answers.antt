@@ -1,5 +1,4 @@
 -- `image::slots_part` meets its contract, by what it calls.
-use native.Mathlib.Omega.{arith}
 use Rattle.image.specs.Image.{slots_part}
 use Rattle.image.proofs.slots_part.Goals as goal
 

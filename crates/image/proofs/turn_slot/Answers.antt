@@ -1,5 +1,4 @@
 -- `image::turn_slot` meets its contract, by what it calls.
-use native.Mathlib.Omega.{arith}
 use Rattle.image.proofs.turn_slot.Goals as goal
 
 pub returns : goal.returns

@@ -1,8 +1,6 @@
-use Prim.Native.Nat.{◌≤◌, ◌-◌}
 use mathlib.Core.Path.{◌≡◌, sym, ◌∙◌, ap}
 use mathlib.Core.Bool.{true, false}
 use native.Mathlib.Omega.{arith}
-use Rattle.wire.specs.Lists.{each}
 use Rattle.wire.proofs.Lists.{each_none, each_more, each_fails}
 use Rattle.instruction.specs.Program.{count, instruction_at, is_legal, all_legal}
 use Rattle.instruction.proofs.all_legal.Goals as goal

@@ -1,11 +1,9 @@
 -- `instruction::all_legal` meets its contract: every instruction below pc is legal.
 use Prim.Native.Nat.{◌≤◌, ◌-◌}
-use mathlib.Core.Path.{◌≡◌, sym, ◌∙◌, ap}
-use mathlib.Core.Bool.{true, false}
-use native.Mathlib.Omega.{arith}
+use mathlib.Core.Path.{◌≡◌}
+use mathlib.Core.Bool.{true}
 use Rattle.wire.specs.Lists.{each}
-use Rattle.wire.proofs.Lists.{each_none, each_more, each_fails}
-use Rattle.instruction.specs.Program.{count, instruction_at, is_legal, all_legal}
+use Rattle.instruction.specs.Program.{instruction_at, is_legal}
 use Rattle.instruction.proofs.all_legal.Given as goal
 
 abbrev pub invariant-loop-pc : goal.invariant-loop-pc

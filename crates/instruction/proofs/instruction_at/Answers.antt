@@ -1,5 +1,4 @@
 -- `instruction::instruction_at` meets its contract: four bytes within the program, or none past its end.
-use borrow.Author.Rules.{rules}
 use mathlib.Core.Path.{sym}
 use native.Mathlib.Omega.{arith}
 use Rattle.instruction.proofs.Program.{at_within, at_past}

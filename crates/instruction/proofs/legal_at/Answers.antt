@@ -1,5 +1,4 @@
 -- `instruction::legal_at` meets its contract: the form of a code that is legal is what its bytes decode to.
-use borrow.Author.Rules.{rules}
 use Rattle.instruction.proofs.Program.{form_legal}
 use Rattle.instruction.proofs.legal_at.Goals as goal
 

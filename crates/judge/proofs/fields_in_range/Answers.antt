@@ -1,5 +1,4 @@
 -- `judge::fields_in_range` meets its contract, by what it calls.
-use native.Mathlib.Omega.{arith}
 use Rattle.image.proofs.Offsets.{task_at_lem}
 use Rattle.judge.proofs.fields_in_range.Goals as goal
 

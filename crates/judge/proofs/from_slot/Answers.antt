@@ -4,8 +4,7 @@ use Rattle.judge.proofs.from_slot.Goals as goal
 
 pub returns-then-slot-number : goal.returns-then-slot-number
 unfolding from_slot
-returns-then-slot-number c =
-    rw (← c.number.ensures, c.if-slot-number.true, ← c.slots_part.ensures) c.skip.ensures
+returns-then-slot-number c = rw (← c.number.ensures, c.if-slot-number.true, ← c.slots_part.ensures) c.skip.ensures
 
 pub returns-else-slot-number : goal.returns-else-slot-number
 unfolding from_slot

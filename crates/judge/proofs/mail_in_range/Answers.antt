@@ -1,9 +1,9 @@
-use Prim.Native.Nat.{◌≤◌, ◌-◌, ◌/◌}
+use Prim.Native.Nat.{◌/◌}
 use mathlib.Core.Path.{◌≡◌, sym}
 use native.Mathlib.Omega.{arith}
 use lib.ListN.{length}
 use Rattle.wire.specs.Items.{decode_items}
-use Rattle.judge.proofs.Mail.{messages, label_low, Counted, counted_none, counted_mail, message_counted, message_fifth, message_out_of_range}
+use Rattle.judge.proofs.Mail.{messages, label_low, counted_none, counted_mail, message_counted, message_fifth, message_out_of_range}
 use Rattle.judge.proofs.mail_in_range.Goals as goal
 
 pub loop-j-preserved : goal.loop-j-preserved

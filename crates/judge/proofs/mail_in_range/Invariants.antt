@@ -1,10 +1,6 @@
 -- `judge::mail_in_range` meets its contract: the counts are those of the messages read, which are in range.
-use Prim.Native.Nat.{◌≤◌, ◌-◌, ◌/◌}
-use mathlib.Core.Path.{◌≡◌, sym}
-use native.Mathlib.Omega.{arith}
-use lib.ListN.{length}
-use Rattle.wire.specs.Items.{decode_items}
-use Rattle.judge.proofs.Mail.{messages, label_low, Counted, counted_none, counted_mail, message_counted, message_fifth, message_out_of_range}
+use Prim.Native.Nat.{◌≤◌, ◌-◌}
+use Rattle.judge.proofs.Mail.{messages, Counted}
 use Rattle.judge.proofs.mail_in_range.Given as goal
 
 abbrev pub invariant-loop-j : goal.invariant-loop-j

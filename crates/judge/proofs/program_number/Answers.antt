@@ -1,6 +1,5 @@
 -- `judge::program_number` meets its contract: at each return the tests before it decide the number.
 use borrow.Author.Tests.{lt-leb, le-leb}
-use native.Mathlib.Omega.{arith}
 use Rattle.image.specs.Refusal.{program_number}
 use Rattle.judge.proofs.program_number.Goals as goal
 

@@ -1,5 +1,4 @@
 -- `judge::record_extent` meets its contract: ahead of the record stand the bytes ahead of its slot, and its length.
-use borrow.Author.Rules.{rules}
 use Rattle.image.proofs.Image.{told_none, told_within, told_some}
 use Rattle.judge.proofs.record_extent.Goals as goal
 

@@ -1,5 +1,4 @@
 -- `judge::record_number` meets its contract: at each return the tests before it decide the number.
-use native.Mathlib.Omega.{arith}
 use Rattle.image.proofs.Records.{slot_none, slot_some}
 use Rattle.judge.proofs.record_number.Goals as goal
 

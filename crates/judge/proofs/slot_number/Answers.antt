@@ -1,5 +1,4 @@
 -- `judge::slot_number` meets its contract, by what it calls: the length's number, then the record's.
-use native.Mathlib.Omega.{arith}
 use Rattle.image.specs.Refusal.{slot_number}
 use Rattle.image.proofs.Refusal.{then_stop}
 use Rattle.judge.proofs.slot_number.Goals as goal
@@ -10,5 +9,4 @@ returns-then-length-ne0 c = rw (← c.length_number-length.ensures, then_stop _ 
 
 pub returns : goal.returns
 unfolding slot_number
-returns c =
-    rw (← c.length_number-length.ensures, c.if-length-ne0.false, ← c.front_record.ensures) c.record_number.ensures
+returns c = rw (← c.length_number-length.ensures, c.if-length-ne0.false, ← c.front_record.ensures) c.record_number.ensures

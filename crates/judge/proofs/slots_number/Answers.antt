@@ -1,7 +1,5 @@
-use Prim.Native.Nat.{◌≤◌, ◌-◌}
-use mathlib.Core.Path.{◌≡◌, refl, sym}
+use mathlib.Core.Path.{refl, sym}
 use native.Mathlib.Omega.{arith}
-use Rattle.image.specs.Refusal.{slots_number}
 use Rattle.image.proofs.Refusal.{then_stop}
 use Rattle.image.proofs.Walk.{slots_first, slots_done}
 use Rattle.judge.proofs.slots_number.Goals as goal

@@ -1,10 +1,7 @@
 -- `judge::slots_number` meets its contract: the number of all slots is that of the slots that are left.
 use Prim.Native.Nat.{◌≤◌, ◌-◌}
-use mathlib.Core.Path.{◌≡◌, refl, sym}
-use native.Mathlib.Omega.{arith}
+use mathlib.Core.Path.{◌≡◌}
 use Rattle.image.specs.Refusal.{slots_number}
-use Rattle.image.proofs.Refusal.{then_stop}
-use Rattle.image.proofs.Walk.{slots_first, slots_done}
 use Rattle.judge.proofs.slots_number.Given as goal
 
 abbrev pub invariant-loop-slot : goal.invariant-loop-slot

@@ -1,13 +1,10 @@
-use Prim.Native.Nat.{◌≤◌, ◌-◌}
 use mathlib.Core.Path.{◌≡◌, sym, ◌∙◌}
-use mathlib.Core.Bool.{true}
 use native.Mathlib.Omega.{arith}
-use Rattle.wire.specs.Lists.{each}
 use Rattle.wire.proofs.Lists.{each_none, each_more, each_fails}
-use Rattle.image.specs.Image.{skip, slots_of}
+use Rattle.image.specs.Image.{slots_of}
 use Rattle.image.proofs.Slots.{length_slots_of}
 use Rattle.image.proofs.Walk.{skip_none, skip_next}
-use Rattle.judge.proofs.Spares.{free_from, is_clear, free_none, spares_clear, clear_at, free_at}
+use Rattle.judge.proofs.Spares.{is_clear, free_none, spares_clear, clear_at, free_at}
 use Rattle.judge.proofs.spares_unused.Goals as goal
 
 pub loop-slot-preserved : goal.loop-slot-preserved

@@ -1,6 +1,5 @@
 -- `judge::turn_slot_number` meets its contract: at each return the tests before it decide the number.
 use borrow.Author.Tests.{lt-leb, le-leb}
-use native.Mathlib.Omega.{arith}
 use Rattle.image.specs.Refusal.{turn_slot_number}
 use Rattle.judge.proofs.turn_slot_number.Goals as goal
 

@@ -15,7 +15,7 @@ put_line-at-requires c =
     let h = c.loop-i in
     let program = c.args.program.now in
     let more : h.i < count program = omega arith in
-    rw (← line_item program h.i no_line more) (item_part line_text (lines_of program) c.args.out.now (room) no_line (rw lines_many more) h.invariant.1)
+    rw (← line_item program h.i no_line more) (item_part line_text (lines_of program) c.args.out.now room no_line (rw lines_many more) h.invariant.1)
 
 pub overflow_add-at : goal.overflow_add-at
 unfolding listing_text
@@ -24,7 +24,7 @@ overflow_add-at c =
     let h = c.loop-i in
     let program = c.args.program.now in
     let more : h.i < count program = omega arith in
-    let fits = item_room line_text (lines_of program) c.args.out.now (room) no_line (rw lines_many more) h.invariant.1 in
+    let fits = item_room line_text (lines_of program) c.args.out.now room no_line (rw lines_many more) h.invariant.1 in
     omega (arith, rw (line_item program h.i no_line more) at fits, c.put_line-at.ensures.0, h.invariant.1.same, c.well_formed.0.0)
 
 pub loop-i-preserved : goal.loop-i-preserved
@@ -35,7 +35,7 @@ loop-i-preserved c =
     let program = c.args.program.now in
     let more : h.i < count program = omega arith in
     let wrote = c.put_line-at in
-    let next = items_more line_text (lines_of program) c.args.out.now (room) no_line (rw lines_many more) h.invariant.1 (rw (← line_item program h.i no_line more) at wrote.ensures.1) in
+    let next = items_more line_text (lines_of program) c.args.out.now room no_line (rw lines_many more) h.invariant.1 (rw (← line_item program h.i no_line more) at wrote.ensures.1) in
     (omega arith, rw (line_item program h.i no_line more, ← wrote.ensures.0) at next)
 
 pub returns : goal.returns

@@ -1,12 +1,9 @@
 -- `loader::label_planes` meets its contract: the labels from message i on are gathered.
-use Prim.Native.Nat.{ℕ, ◌+◌, ◌*◌, ◌-◌, ◌/◌, ◌≤◌}
-use mathlib.Core.Path.{◌≡◌, ap, ◌∙◌}
-use native.Mathlib.Omega.{arith}
-use lib.ListN.{length, get_or, drop}
-use Rattle.planes.specs.Planes.{ahead, planes_of}
-use Rattle.planes.proofs.Gathered.{planes_fit}
+use Prim.Native.Nat.{◌/◌, ◌≤◌}
+use mathlib.Core.Path.{◌≡◌}
+use lib.ListN.{length, drop}
+use Rattle.planes.specs.Planes.{planes_of}
 use Rattle.loader.specs.Loading.{labels_of}
-use Rattle.loader.proofs.Loading.{labels_none, labels_next, labels_left}
 use Rattle.loader.proofs.label_planes.Given as goal
 
 abbrev pub invariant-loop-i : goal.invariant-loop-i

@@ -8,7 +8,7 @@ use Rattle.loader.proofs.load.Goals as goal
 pub load_slots-requires : goal.load_slots-requires
 load_slots-requires c =
     let b = c.args.image.now in
-    let bytes = every_of IsByte 0 b (λ i. (c.shared_slice_known-1.given i).fits) in
+    let bytes = every_of IsByte 0 b (λ i. (c.type_inv.image i).fits) in
     rw (c.slots_part.ensures, c.version.ensures) (accepted_loadable b bytes c.requires)
 
 pub returns : goal.returns

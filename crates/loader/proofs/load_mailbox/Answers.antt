@@ -1,14 +1,8 @@
 -- `loader::load_mailbox` meets its contract: the labels, and then the rest of each message.
-use Prim.Native.Nat.{◌/◌}
-use mathlib.Core.Path.{◌≡◌, ◌∙◌}
+use mathlib.Core.Path.{◌∙◌}
 use native.Mathlib.Omega.{arith}
-use lib.ListN.{length}
-use Rattle.planes.specs.Planes.{label_from, plane_of, planes_of}
-use Rattle.machine.specs.State.{with_mailbox}
 use Rattle.table.specs.Table.{window, slots_in}
-use Rattle.table.specs.Change.{change, opened}
 use Rattle.table.proofs.Slots.{used_slot}
-use Rattle.loader.specs.Loading.{labels_of}
 use Rattle.loader.proofs.Loading.{mailbox_opened, mailbox_loaded}
 use Rattle.loader.proofs.load_mailbox.Goals as goal
 

@@ -1,4 +1,4 @@
-use Prim.Native.Nat.{◌≤◌, ◌-◌, ◌*◌}
+use Prim.Native.Nat.{◌*◌}
 use mathlib.Core.Path.{◌≡◌, ap, ◌∙◌}
 use native.Mathlib.Omega.{arith}
 use lib.ListN.{drop, length-drop}
@@ -6,7 +6,6 @@ use Rattle.wire.specs.Numbers.{decode_number}
 use Rattle.machine.specs.State.{with_register}
 use Rattle.table.specs.Table.{slots_in}
 use Rattle.table.specs.Change.{change}
-use Rattle.loader.specs.Loading.{registers_set}
 use Rattle.loader.proofs.Loading.{from_on, registers_none, registers_next}
 use Rattle.loader.proofs.load_registers.Goals as goal
 

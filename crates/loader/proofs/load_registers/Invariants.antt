@@ -1,14 +1,9 @@
 -- `loader::load_registers` meets its contract: the first a registers are set.
-use Prim.Native.Nat.{◌≤◌, ◌-◌, ◌*◌}
-use mathlib.Core.Path.{◌≡◌, ap, ◌∙◌}
-use native.Mathlib.Omega.{arith}
-use lib.ListN.{drop, length-drop}
-use Rattle.wire.specs.Numbers.{decode_number}
-use Rattle.machine.specs.State.{with_register}
+use Prim.Native.Nat.{◌≤◌, ◌-◌}
+use mathlib.Core.Path.{◌≡◌}
 use Rattle.table.specs.Table.{slots_in}
 use Rattle.table.specs.Change.{change}
 use Rattle.loader.specs.Loading.{registers_set}
-use Rattle.loader.proofs.Loading.{from_on, registers_none, registers_next}
 use Rattle.loader.proofs.load_registers.Given as goal
 
 abbrev pub invariant-loop-a : goal.invariant-loop-a

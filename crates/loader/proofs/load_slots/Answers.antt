@@ -1,11 +1,8 @@
-use Prim.Native.Nat.{◌-◌, ◌≤◌}
 use mathlib.Core.Path.{◌≡◌, refl, sym, ap, ◌∙◌}
-use mathlib.Core.List.{◌++◌}
 use native.Mathlib.Nat.{le_of_eq}
 use native.Mathlib.Omega.{arith}
-use lib.ListN.{take, drop}
 use Rattle.wire.proofs.Output.{copy_all}
-use Rattle.image.specs.Image.{record_of, behind, skip, slots_of}
+use Rattle.image.specs.Image.{record_of, behind, slots_of}
 use Rattle.image.proofs.Walk.{skip_none, skip_next}
 use Rattle.image.proofs.Slots.{length_slots_of}
 use Rattle.table.specs.Table.{slots_in}

@@ -1,17 +1,10 @@
 -- `loader::load_slots` meets its contract: the first slots are loaded, and the bytes behind them are at hand.
 use Prim.Native.Nat.{◌-◌, ◌≤◌}
-use mathlib.Core.Path.{◌≡◌, refl, sym, ap, ◌∙◌}
+use mathlib.Core.Path.{◌≡◌}
 use mathlib.Core.List.{◌++◌}
-use native.Mathlib.Nat.{le_of_eq}
-use native.Mathlib.Omega.{arith}
 use lib.ListN.{take, drop}
-use Rattle.wire.proofs.Output.{copy_all}
-use Rattle.image.specs.Image.{record_of, behind, skip, slots_of}
-use Rattle.image.proofs.Walk.{skip_none, skip_next}
-use Rattle.image.proofs.Slots.{length_slots_of}
+use Rattle.image.specs.Image.{skip, slots_of}
 use Rattle.table.specs.Table.{slots_in}
-use Rattle.table.proofs.Change.{length_slots}
-use Rattle.loader.proofs.Loading.{load_next}
 use Rattle.loader.proofs.load_slots.Given as goal
 
 abbrev pub invariant-loop-slot : goal.invariant-loop-slot

@@ -1,16 +1,15 @@
 -- `loader::load_task` meets its contract: a new task, then its registers, then its messages.
-use borrow.Author.Rules.{rules}
 use Prim.Native.Nat.{◌+◌}
-use mathlib.Core.Path.{◌≡◌, ap, ◌∙◌}
-use lib.ListN.{drop, set, length-drop}
+use mathlib.Core.Path.{ap, ◌∙◌}
+use lib.ListN.{drop, length-drop}
 use native.Mathlib.Omega.{arith}
 use Rattle.machine.specs.State.{with_mailbox}
 use Rattle.image.specs.Format.{task_size}
-use Rattle.image.specs.Record.{mailbox_of, task_of}
+use Rattle.image.specs.Record.{mailbox_of}
 use Rattle.image.specs.Inner.{clearance_width}
 use Rattle.image.proofs.Offsets.{task_at_lem}
-use Rattle.table.specs.Table.{held, slots_in}
-use Rattle.table.specs.Change.{change, new_task}
+use Rattle.table.specs.Table.{slots_in}
+use Rattle.table.specs.Change.{change}
 use Rattle.table.proofs.Change.{length_slots}
 use Rattle.loader.specs.Loading.{registers_set}
 use Rattle.loader.proofs.Loading.{from_on, record_long, registers_here, task_loaded}
@@ -20,22 +19,26 @@ pub load_mailbox-requires : goal.load_mailbox-requires
 load_mailbox-requires c =
     let a = c.args in
     let here = registers_here a.version a.bytes.now c.requires.1 a.slot (slots_in a.table.now) (omega (arith, c.requires.0, length_slots a.table.now)) in
-    rw ((let a = c.args in
-    let at = task_at_lem a.version a.bytes.now in
-    let width = c.clearance_width-width.ensures.0 in
-    let pc = rw (from_on, width, ← at.pc) at c.decode_u16-pc.ensures.0 in
-    let spare = rw (width, ← at.spare) at c.byte-3.ensures in
-    let new
-    = rw (
-      c.byte.ensures,
-      c.byte-2.ensures,
-      c.clearance.ensures,
-      spare,
-      pc,
-      ← at.kind,
-      ← at.label,
-    ) at c.put_task.ensures in
-    rw (from_on, width) at c.load_registers.ensures ∙ ap (change a.slot (registers_set 8 (drop (5 + clearance_width a.version) a.bytes.now))) new), from_on, c.task_size.ensures.0) (here, c.requires.1.messages, c.requires.1.labels)
+    rw (
+      (let a = c.args in
+          let at = task_at_lem a.version a.bytes.now in
+          let width = c.clearance_width-width.ensures.0 in
+          let pc = rw (from_on, width, ← at.pc) at c.decode_u16-pc.ensures.0 in
+          let spare = rw (width, ← at.spare) at c.byte-3.ensures in
+          let new
+          = rw (
+            c.byte.ensures,
+            c.byte-2.ensures,
+            c.clearance.ensures,
+            spare,
+            pc,
+            ← at.kind,
+            ← at.label,
+          ) at c.put_task.ensures in
+          rw (from_on, width) at c.load_registers.ensures ∙ ap (change a.slot (registers_set 8 (drop (5 + clearance_width a.version) a.bytes.now))) new),
+      from_on,
+      c.task_size.ensures.0,
+    ) (here, c.requires.1.messages, c.requires.1.labels)
 
 pub returns : goal.returns
 returns c =

@@ -1,5 +1,4 @@
 -- `planes::above` meets its contract: bits that the label has not.
-use Rattle.std.proofs.Common.{rules}
 use Rattle.label.specs.Label.{bit}
 use Rattle.label.proofs.Bits.{bit_lt}
 use Rattle.planes.proofs.Words.{bits_above}

@@ -1,5 +1,5 @@
 -- `planes::rest` meets its contract: of an empty set nothing is left.
-use Rattle.std.proofs.Common.{◌≡◌, refl, arith}
+use Rattle.std.proofs.Common.{◌≡◌, arith}
 use Rattle.planes.proofs.rest.Goals as goal
 
 pub returns-then-set-eq0 : goal.returns-then-set-eq0

@@ -1,5 +1,4 @@
 -- `planes::spread` meets its contract: 0 less a bit.
-use Rattle.std.proofs.Common.{rules}
 use Rattle.label.specs.Label.{bit}
 use Rattle.label.proofs.Bits.{bit_lt}
 use Rattle.planes.proofs.Words.{bits_spread}

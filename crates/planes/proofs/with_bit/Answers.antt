@@ -1,5 +1,4 @@
 -- `planes::with_bit` meets its contract: bit n is turned over where it is not the label's.
-use Rattle.std.proofs.Common.{rules}
 use Rattle.label.specs.Label.{bit}
 use Rattle.label.proofs.Bits.{bit_lt}
 use Rattle.planes.proofs.Words.{bits_with}

@@ -1,5 +1,5 @@
 -- `planes::without_bit` meets its contract: the low bits, and the others from one place higher.
-use Rattle.std.proofs.Common.{pow_pos, rules}
+use Rattle.std.proofs.Common.{pow_pos}
 use Rattle.planes.proofs.Words.{one_shifted, bits_without}
 use Rattle.planes.proofs.without_bit.Goals as goal
 

@@ -14,7 +14,7 @@ use Rattle.planes.specs.Planes.{Bits, set_of}
 use Rattle.planes.proofs.Sets.{ones_set}
 use Rattle.machine.specs.State.{Message}
 use Rattle.machine.specs.Effect.{receivable, find}
-use Rattle.table.specs.Table.{mailbox_room, window, message_in, slots_in}
+use Rattle.table.specs.Table.{window, message_in, slots_in}
 use Rattle.table.specs.Change.{task_at, Used}
 use Rattle.table.proofs.Slots.{used_slot}
 use Rattle.search.proofs.Read.{receivable_most, set_read, first_read}
@@ -65,11 +65,11 @@ returns c =
     let n = c.mailbox_length-n in
     let p : Message → Bool = receivable flows a.label in
     let first : first_index p (task_at (slots_in a.t.now) a.s).mailbox ≡ min (count_trailing_zeros 64 c.flowing-passed.result) n.result
-        = first_read a.t.now a.s c.requires p c.flowing-passed.result n.result c.flowing-passed.ensures n.ensures.0 n.ensures.1 c.flowing-passed.type_inv in
+    = first_read a.t.now a.s c.requires p c.flowing-passed.result n.result c.flowing-passed.ensures n.ensures.0 n.ensures.1 c.flowing-passed.type_inv in
     let many = there a.t.now a.s a.label c.flowing-passed.result n.result c.below.result c.requires c.flowing-passed.ensures n.ensures.0 n.ensures.1 c.below.ensures in
     let oldest : c.if-first-n.result ≡ first_index p (task_at (slots_in a.t.now) a.s).mailbox =
-        elim c.if-first-n.branch [
-          | then-first-n w ↦ omega (arith, first, w.if-first-n.true, w.result-is)
-          | else-first-n w ↦ omega (arith, first, w.if-first-n.false, w.result-is)
-        ] in
+    elim c.if-first-n.branch [
+      | then-first-n w ↦ omega (arith, first, w.if-first-n.true, w.result-is)
+      | else-first-n w ↦ omega (arith, first, w.if-first-n.false, w.result-is)
+    ] in
     rw (oldest, many)

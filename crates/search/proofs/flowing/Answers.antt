@@ -1,11 +1,7 @@
-use Prim.Native.Nat.{ℕ, ◌-◌}
-use mathlib.Core.Bool.{Bool}
-use mathlib.Core.List.{List}
 use native.Mathlib.Omega.{arith}
-use lib.Dec.{leb}
-use Rattle.label.specs.Label.{bit, flows}
+use Rattle.label.specs.Label.{flows}
 use Rattle.planes.specs.Planes.{label_from}
-use Rattle.planes.proofs.Tests.{Failed, failed_none, failed_more, all_passed}
+use Rattle.planes.proofs.Tests.{failed_none, failed_more, all_passed}
 use Rattle.planes.proofs.Labels.{label_flows}
 use Rattle.table.specs.Table.{window, plane_in}
 use Rattle.search.proofs.flowing.Invariants.{test}

@@ -2,12 +2,9 @@
 use Prim.Native.Nat.{ℕ, ◌-◌}
 use mathlib.Core.Bool.{Bool}
 use mathlib.Core.List.{List}
-use native.Mathlib.Omega.{arith}
 use lib.Dec.{leb}
-use Rattle.label.specs.Label.{bit, flows}
-use Rattle.planes.specs.Planes.{label_from}
-use Rattle.planes.proofs.Tests.{Failed, failed_none, failed_more, all_passed}
-use Rattle.planes.proofs.Labels.{label_flows}
+use Rattle.label.specs.Label.{bit}
+use Rattle.planes.proofs.Tests.{Failed}
 use Rattle.table.specs.Table.{window, plane_in}
 use Rattle.search.proofs.flowing.Given as goal
 

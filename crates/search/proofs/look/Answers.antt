@@ -1,10 +1,9 @@
-use Prim.Native.Nat.{◌-◌}
 use mathlib.Core.Path.{sym}
 use native.Mathlib.Omega.{arith}
 use lib.Count.{trailing_le}
 use Rattle.table.specs.Table.{slots_in}
 use Rattle.table.specs.Change.{task_at}
-use Rattle.search.proofs.Counting.{look_few, Going, going_first, going_next, going_none, going_some}
+use Rattle.search.proofs.Counting.{look_few, going_first, going_next, going_none, going_some}
 use Rattle.search.proofs.look.Goals as goal
 
 pub returns-then-n-lt-LIMIT_PER_LABEL : goal.returns-then-n-lt-LIMIT_PER_LABEL

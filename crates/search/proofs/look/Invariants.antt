@@ -1,11 +1,8 @@
 -- `search::look` meets its contract: from the oldest of the label to the fourth, which tells.
 use Prim.Native.Nat.{◌-◌}
-use mathlib.Core.Path.{sym}
-use native.Mathlib.Omega.{arith}
-use lib.Count.{trailing_le}
 use Rattle.table.specs.Table.{slots_in}
 use Rattle.table.specs.Change.{task_at}
-use Rattle.search.proofs.Counting.{look_few, Going, going_first, going_next, going_none, going_some}
+use Rattle.search.proofs.Counting.{Going}
 use Rattle.search.proofs.look.Given as goal
 
 abbrev pub invariant-loop-nth : goal.invariant-loop-nth

@@ -24,15 +24,15 @@ write_answer-requires c =
     let accepted : image_number c.args.image.now ≡ 0 = sym c.number-number.ensures ∙ c.if-number-eq0.true in
     let same : let a = c.args in shown_sheet a.observer c.load.new.table ≡ sheet_bytes a.observer a.image.now = let a = c.args in sheet_shown a.observer c.load.new.table (state_of a.image.now) c.load.ensures in
     let a = c.args in
-    let bytes = every_of IsByte 0 a.image.now (λ i. (c.shared_slice_known-1.given i).fits) in
-    rw (same) (sheet_fits a.observer a.image.now bytes (accepted))
+    let bytes = every_of IsByte 0 a.image.now (λ i. (c.type_inv.image i).fits) in
+    rw same (sheet_fits a.observer a.image.now bytes accepted)
 
 pub returns-then-number-eq0 : goal.returns-then-number-eq0
 returns-then-number-eq0 c =
     let accepted : image_number c.args.image.now ≡ 0 = sym c.number-number.ensures ∙ c.if-number-eq0.true in
     let same : let a = c.args in shown_sheet a.observer c.load.new.table ≡ sheet_bytes a.observer a.image.now = let a = c.args in sheet_shown a.observer c.load.new.table (state_of a.image.now) c.load.ensures in
     let seen = le-leb c.args.observer highest_label (omega arith) in
-    call_accepted _ _ (rw seen) (accepted) (same) refl c.write_answer.ensures
+    call_accepted _ _ (rw seen) accepted same refl c.write_answer.ensures
 
 -- a refused one
 pub returns-else-number-eq0 : goal.returns-else-number-eq0
@@ -41,6 +41,4 @@ returns-else-number-eq0 c =
     call_refused _ _ (rw seen) c.number-number.ensures c.if-number-eq0.false c.refused-else-number-eq0.ensures
 
 pub load-requires : goal.load-requires
-load-requires c = 
-    let accepted : image_number c.args.image.now ≡ 0 = sym c.number-number.ensures ∙ c.if-number-eq0.true in
-    accepted
+load-requires c = sym c.number-number.ensures ∙ c.if-number-eq0.true

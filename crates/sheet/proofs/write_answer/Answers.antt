@@ -13,13 +13,13 @@ use Rattle.sheet.proofs.write_answer.Goals as goal
 pub slice_bounds-copy-end : goal.slice_bounds-copy-end
 slice_bounds-copy-end c =
     let text : List ℕ = shown_sheet c.args.observer c.args.table.now in
-    let front : take c.put_sheet-length.result c.put_sheet-length.new.out ≡ text = written_front (text) _ _ (sym c.put_sheet-length.ensures.0) c.put_sheet-length.ensures.1 in
-    c.put_sheet-length.ensures.0 ∙ sym (ap length (front))
+    let front : take c.put_sheet-length.result c.put_sheet-length.new.out ≡ text = written_front text _ _ (sym c.put_sheet-length.ensures.0) c.put_sheet-length.ensures.1 in
+    c.put_sheet-length.ensures.0 ∙ sym (ap length front)
 
 pub returns : goal.returns
 returns c =
     let text : List ℕ = shown_sheet c.args.observer c.args.table.now in
-    let front : take c.put_sheet-length.result c.put_sheet-length.new.out ≡ text = written_front (text) _ _ (sym c.put_sheet-length.ensures.0) c.put_sheet-length.ensures.1 in
+    let front : take c.put_sheet-length.result c.put_sheet-length.new.out ≡ text = written_front text _ _ (sym c.put_sheet-length.ensures.0) c.put_sheet-length.ensures.1 in
     let a = c.args in
-    told_written (text) a.out.now 0 c.put_sheet-length.ensures.0
-    (c.copy.ensures ∙ ap (λ (w : List ℕ). written w a.out.now) (front)) c.answered.ensures
+    told_written text a.out.now 0 c.put_sheet-length.ensures.0
+    (c.copy.ensures ∙ ap (λ (w : List ℕ). written w a.out.now) front) c.answered.ensures

@@ -61,7 +61,7 @@ pub message_value-value-requires : goal.message_value-value-requires
 message_value-value-requires c = c.requires.0
 
 pub put_message-requires : goal.put_message-requires
-put_message-requires c = 
+put_message-requires c =
     let message : Message = message_at (slots_in c.args.table.now) c.args.slot c.args.i in
     let shown : shown_message c.args.observer message ≡ message_bytes message = message_shown _ _ c.message_label-label.ensures c.flows.ensures c.if-flows.true in
     let room : 6 ≤ length c.args.out.now = rw (shown, length_message message) at c.requires.1 in

@@ -5,5 +5,4 @@ use Rattle.table.proofs.Slots.{clear_slots}
 use Rattle.table.proofs.clear.Goals as goal
 
 pub returns : goal.returns
-returns c =
-    clear_slots c.args.t.now c.put.new.t c.args.s 0 (omega arith) c.put.ensures c.requires refl
+returns c = clear_slots c.args.t.now c.put.new.t c.args.s 0 (omega arith) c.put.ensures c.requires refl

@@ -1,9 +1,6 @@
 -- `table::clear_fields` meets its contract: the first i words are 0.
 use Prim.Native.Nat.{◌≤◌, ◌-◌}
-use mathlib.Core.Path.{◌≡◌}
-use native.Mathlib.Omega.{arith}
 use Rattle.table.specs.Words.{SlotStored, cleared}
-use Rattle.table.proofs.Window.{cleared_none, cleared_more}
 use Rattle.table.proofs.clear_fields.Given as goal
 
 abbrev pub invariant-loop-i : goal.invariant-loop-i

@@ -1,5 +1,4 @@
 -- `table::label_bit` meets its contract: bit i of plane b.
-use borrow.Author.Rules.{rules}
 use mathlib.Core.Path.{◌≡◌, ap, ◌∙◌}
 use native.Mathlib.Omega.{arith}
 use Rattle.label.specs.Label.{bit}

@@ -1,7 +1,6 @@
-use Prim.Native.Nat.{◌-◌, ◌≤◌}
 use mathlib.Core.Path.{◌≡◌}
 use native.Mathlib.Omega.{arith}
-use Rattle.table.specs.Words.{SlotChanged, Planed, WithBit}
+use Rattle.table.specs.Words.{WithBit}
 use Rattle.table.proofs.Planes.{planes_none, planes_more}
 use Rattle.table.proofs.mark.Goals as goal
 

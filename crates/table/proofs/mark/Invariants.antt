@@ -1,9 +1,6 @@
 -- `table::mark` meets its contract: the first b planes are changed.
 use Prim.Native.Nat.{◌-◌, ◌≤◌}
-use mathlib.Core.Path.{◌≡◌}
-use native.Mathlib.Omega.{arith}
 use Rattle.table.specs.Words.{SlotChanged, Planed, WithBit}
-use Rattle.table.proofs.Planes.{planes_none, planes_more}
 use Rattle.table.proofs.mark.Given as goal
 
 abbrev pub invariant-loop-b : goal.invariant-loop-b

@@ -1,5 +1,4 @@
 -- `table::message_label` meets its contract: its four bits.
-use Prim.Native.Nat.{◌<◌}
 use native.Mathlib.Omega.{arith}
 use Rattle.planes.proofs.Labels.{label_four}
 use Rattle.table.specs.Table.{window, plane_in, message_in}

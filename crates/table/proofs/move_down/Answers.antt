@@ -1,7 +1,7 @@
-use Prim.Native.Nat.{◌+◌, ◌-◌, ◌≤◌, ◌<◌}
+use Prim.Native.Nat.{◌+◌, ◌-◌}
 use mathlib.Core.Path.{◌≡◌}
 use native.Mathlib.Omega.{arith}
-use Rattle.table.specs.Words.{SlotChanged, Moved, down}
+use Rattle.table.specs.Words.{down}
 use Rattle.table.proofs.Ring.{ring_none, ring_more, down_none, down_here, down_other}
 use Rattle.table.proofs.move_down.Goals as goal
 

@@ -1,9 +1,6 @@
 -- `table::move_down` meets its contract: the messages behind message i, up to message k, have moved.
-use Prim.Native.Nat.{◌+◌, ◌-◌, ◌≤◌, ◌<◌}
-use mathlib.Core.Path.{◌≡◌}
-use native.Mathlib.Omega.{arith}
+use Prim.Native.Nat.{◌-◌, ◌≤◌, ◌<◌}
 use Rattle.table.specs.Words.{SlotChanged, Moved, down}
-use Rattle.table.proofs.Ring.{ring_none, ring_more, down_none, down_here, down_other}
 use Rattle.table.proofs.move_down.Given as goal
 
 abbrev pub invariant-loop-k : goal.invariant-loop-k

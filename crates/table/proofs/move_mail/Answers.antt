@@ -1,7 +1,6 @@
 -- `table::move_mail` meets its contract: the word that is stored is the one that was read.
 use Prim.Native.Nat.{ℕ, ◌+◌, ◌%◌}
 use mathlib.Core.Path.{sym, ap, ◌∙◌}
-use native.Mathlib.Omega.{arith}
 use lib.ListN.{set}
 use lib.Seq.{get_or-drop}
 use Rattle.table.specs.Table.{window}

@@ -1,7 +1,7 @@
-use Prim.Native.Nat.{◌-◌, ◌≤◌}
+use Prim.Native.Nat.{◌-◌}
 use mathlib.Core.Path.{◌≡◌}
 use native.Mathlib.Omega.{arith}
-use Rattle.table.specs.Words.{SlotChanged, Moved, up}
+use Rattle.table.specs.Words.{up}
 use Rattle.table.proofs.Ring.{ring_none, ring_more, up_none, up_here, up_other}
 use Rattle.table.proofs.move_up.Goals as goal
 

@@ -1,9 +1,6 @@
 -- `table::move_up` meets its contract: the messages ahead of message i, from message k on, have moved.
-use Prim.Native.Nat.{◌-◌, ◌≤◌}
-use mathlib.Core.Path.{◌≡◌}
-use native.Mathlib.Omega.{arith}
+use Prim.Native.Nat.{◌≤◌}
 use Rattle.table.specs.Words.{SlotChanged, Moved, up}
-use Rattle.table.proofs.Ring.{ring_none, ring_more, up_none, up_here, up_other}
 use Rattle.table.proofs.move_up.Given as goal
 
 abbrev pub invariant-loop-k : goal.invariant-loop-k

@@ -1,7 +1,5 @@
 -- `table::plane` meets its contract: a plane has a word of its own.
-use borrow.Author.Rules.{rules}
 use mathlib.Core.Path.{sym, ◌∙◌}
-use native.Mathlib.Omega.{arith}
 use lib.Seq.{get_or-drop}
 use Rattle.table.specs.Table.{window}
 use Rattle.table.proofs.plane.Goals as goal

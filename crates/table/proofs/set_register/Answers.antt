@@ -1,5 +1,4 @@
 -- `table::set_register` meets its contract: the word that is stored is read as that register alone.
-use borrow.Author.Rules.{rules}
 use mathlib.Core.Path.{refl}
 use native.Mathlib.Omega.{arith}
 use Rattle.machine.specs.State.{with_register}

@@ -8,8 +8,7 @@ use Rattle.table.proofs.spare.Goals as goal
 
 pub returns : goal.returns
 unfolding task_in
-returns c =
-    rw (used_task c.args.t.now c.args.s c.requires) (c.byte.ensures ∙ ap (λ (x : ℕ). x % 256) c.word.ensures)
+returns c = rw (used_task c.args.t.now c.args.s c.requires) (c.byte.ensures ∙ ap (λ (x : ℕ). x % 256) c.word.ensures)
 
 pub word-requires : goal.word-requires
 word-requires c = omega (arith, used_slot _ _ c.requires)

@@ -1,6 +1,5 @@
-use mathlib.Core.Path.{sym, ◌∙◌}
+use mathlib.Core.Path.{sym}
 use native.Mathlib.Omega.{arith}
-use lib.ListN.{length-set}
 use Rattle.text.proofs.Text.{length_digit, length_more, digit_written, last_digit_written}
 use Rattle.text.proofs.+put_decimal.Goals as goal
 

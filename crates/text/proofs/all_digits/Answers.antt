@@ -1,8 +1,5 @@
-use Prim.Native.Nat.{◌-◌, ◌≤◌}
-use mathlib.Core.Path.{◌≡◌, refl, sym, ◌∙◌}
+use mathlib.Core.Path.{refl, sym, ◌∙◌}
 use native.Mathlib.Omega.{arith}
-use lib.ListN.{drop}
-use Rattle.wire.specs.Lists.{all}
 use Rattle.wire.proofs.Lists.{all_next, all_done}
 use Rattle.text.specs.Inner.{is_digit}
 use Rattle.text.proofs.all_digits.Goals as goal

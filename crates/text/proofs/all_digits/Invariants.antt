@@ -1,10 +1,8 @@
 -- `text::all_digits` meets its contract: the bytes from index i on decide.
 use Prim.Native.Nat.{◌-◌, ◌≤◌}
-use mathlib.Core.Path.{◌≡◌, refl, sym, ◌∙◌}
-use native.Mathlib.Omega.{arith}
+use mathlib.Core.Path.{◌≡◌}
 use lib.ListN.{drop}
 use Rattle.wire.specs.Lists.{all}
-use Rattle.wire.proofs.Lists.{all_next, all_done}
 use Rattle.text.specs.Inner.{is_digit}
 use Rattle.text.proofs.all_digits.Given as goal
 

@@ -1,5 +1,4 @@
 -- `text::put` meets its contract: there is room for the copy.
-use borrow.Author.Rules.{rules}
 use mathlib.Core.Path.{refl, ◌∙◌}
 use Rattle.wire.proofs.Output.{written_fits}
 use Rattle.text.proofs.put.Goals as goal

@@ -1,7 +1,5 @@
-use Prim.Native.Nat.{◌-◌, ◌≤◌}
 use native.Mathlib.Omega.{arith}
-use lib.ListN.{length}
-use Rattle.wire.proofs.Output.{ItemsWritten, items_none, item_room, item_part, items_more, items_size, items_all}
+use Rattle.wire.proofs.Output.{items_none, item_room, item_part, items_more, items_size, items_all}
 use Rattle.text.specs.Text.{spaced}
 use Rattle.text.proofs.put_numbers.Goals as goal
 

@@ -1,8 +1,7 @@
 -- `text::put_numbers` meets its contract: the first i numbers are written.
 use Prim.Native.Nat.{◌-◌, ◌≤◌}
-use native.Mathlib.Omega.{arith}
 use lib.ListN.{length}
-use Rattle.wire.proofs.Output.{ItemsWritten, items_none, item_room, item_part, items_more, items_size, items_all}
+use Rattle.wire.proofs.Output.{ItemsWritten}
 use Rattle.text.specs.Text.{spaced}
 use Rattle.text.proofs.put_numbers.Given as goal
 

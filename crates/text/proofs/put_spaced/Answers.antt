@@ -1,5 +1,4 @@
 -- `text::put_spaced` meets its contract: the number is written behind the space.
-use borrow.Author.Rules.{rules}
 use mathlib.Core.Path.{refl}
 use Prim.Native.Nat.{ℕ, ◌≤◌}
 use mathlib.Core.List.{List, [], ◌∷◌}

@@ -1,5 +1,4 @@
 -- `text::read_number` meets its contract: what stands ahead of the byte that ends the number decides.
-use borrow.Author.Rules.{rules}
 use Prim.Native.Nat.{ℕ}
 use mathlib.Core.Path.{◌≡◌, refl, sym, ap, ◌∙◌}
 use native.Mathlib.Numerals.{add-one}

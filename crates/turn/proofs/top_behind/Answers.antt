@@ -22,23 +22,23 @@ pub kind-requires : goal.kind-requires
 kind-requires c = c.requires.0
 
 pub spare-requires : goal.spare-requires
-spare-requires c = 
+spare-requires c =
     let here : Used c.args.slot (slots_in c.args.table.now) = let a = c.args in
     kind_used (slots_in a.table.now) a.slot (omega (arith, c.kind.ensures, c.if-kind-gt0.true)) in
     here
 
 pub overflow_add-result : goal.overflow_add-result
-overflow_add-result c = 
+overflow_add-result c =
     let here : Used c.args.slot (slots_in c.args.table.now) = let a = c.args in
     kind_used (slots_in a.table.now) a.slot (omega (arith, c.kind.ensures, c.if-kind-gt0.true)) in
-    let fits : c.args.slot + c.spare.result < 16 = let within = rw (here) at (c.requires.1 c.args.slot) in
+    let fits : c.args.slot + c.spare.result < 16 = let within = rw here at (c.requires.1 c.args.slot) in
     omega (arith, within.1, c.spare.ensures) in
     omega (arith, fits)
 
 pub overflow_add-result-then-kind-gt0 : goal.overflow_add-result-then-kind-gt0
-overflow_add-result-then-kind-gt0 c = 
+overflow_add-result-then-kind-gt0 c =
     let here : Used c.args.slot (slots_in c.args.table.now) = let a = c.args in
     kind_used (slots_in a.table.now) a.slot (omega (arith, c.kind.ensures, c.if-kind-gt0.true)) in
-    let fits : c.args.slot + c.spare.result < 16 = let within = rw (here) at (c.requires.1 c.args.slot) in
+    let fits : c.args.slot + c.spare.result < 16 = let within = rw here at (c.requires.1 c.args.slot) in
     omega (arith, within.1, c.spare.ensures) in
     omega (arith, fits)

@@ -57,12 +57,10 @@ pub top-top-requires : goal.top-top-requires
 top-top-requires c = valid_sixteen _ c.requires
 
 pub round_end-end-requires : goal.round_end-end-requires
-round_end-end-requires c = 
-    let slot_low : c.loop-left.slot ≤ 15 = leb-true c.loop-left.slot 15 (ran_valid c.loop-left.invariant.1 c.requires).turn_slot in
-    slot_low
+round_end-end-requires c = leb-true c.loop-left.slot 15 (ran_valid c.loop-left.invariant.1 c.requires).turn_slot
 
 pub overflow_sub-left : goal.overflow_sub-left
-overflow_sub-left c = 
+overflow_sub-left c =
     let slot_low : c.loop-left.slot ≤ 15 = leb-true c.loop-left.slot 15 (ran_valid c.loop-left.invariant.1 c.requires).turn_slot in
     omega (arith, c.round_end-end.ensures, slot_low)
 
@@ -76,6 +74,6 @@ pub next_slot-slot-requires : goal.next_slot-slot-requires
 next_slot-slot-requires c = omega (arith, c.round_end-end.ensures)
 
 pub loop-left-smaller : goal.loop-left-smaller
-loop-left-smaller c = 
+loop-left-smaller c =
     let slot_low : c.loop-left.slot ≤ 15 = leb-true c.loop-left.slot 15 (ran_valid c.loop-left.invariant.1 c.requires).turn_slot in
     omega (arith, c.round_end-end.ensures, slot_low)

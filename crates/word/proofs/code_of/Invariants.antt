@@ -1,17 +1,12 @@
 -- `word::code_of` meets its contract: no code before the one that is tried has the word.
-use Prim.Native.Nat.{ℕ, ◌-◌, ◌≤◌, ◌<◌}
-use mathlib.Core.Path.{◌≡◌, sym, ◌∙◌}
+use Prim.Native.Nat.{ℕ, ◌-◌, ◌≤◌}
 use mathlib.Core.Bool.{Bool}
 use mathlib.Core.List.{List}
-use native.Mathlib.Omega.{arith}
-use lib.ListN.{length, get_or}
+use lib.ListN.{length}
 use Rattle.wire.specs.Lists.{tabulate, first_index}
 use Rattle.wire.specs.Inner.{same}
-use Rattle.wire.proofs.Lists.{first_here, first_next, first_past}
-use Rattle.wire.proofs.Tabulate.{get_d_tabulate, length_tabulate}
 use Rattle.instruction.specs.Table.{table}
 use Rattle.word.specs.Word.{word_of}
-use Rattle.word.specs.Inner.{code_of}
 use Rattle.word.proofs.code_of.Given as goal
 
 -- the codes that are tried

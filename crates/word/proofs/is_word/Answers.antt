@@ -1,8 +1,7 @@
 -- `word::is_word` meets its contract: the word is written to a buffer that is long enough, and compared there.
-use borrow.Author.Rules.{rules}
-use mathlib.Core.Path.{◌≡◌, sym, ap, ◌∙◌}
+use mathlib.Core.Path.{sym, ap, ◌∙◌}
 use native.Mathlib.Omega.{arith}
-use lib.ListN.{length, take}
+use lib.ListN.{length}
 use Rattle.wire.proofs.Output.{written_front}
 use Rattle.word.specs.Word.{word_of}
 use Rattle.word.proofs.Words.{word_most}

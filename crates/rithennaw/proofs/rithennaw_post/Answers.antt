@@ -5,20 +5,15 @@ use mathlib.Core.Path.{◌≡◌, refl, ap, ◌∙◌}
 use mathlib.Core.Bool.{Bool, true, false, cond}
 use native.Mathlib.Omega.{arith}
 use Rattle.wire.proofs.Lists.{IsByte, every_of}
-use Rattle.rithennaw.proofs.rithennaw_post.Statement.{statement}
-use Rattle.rithennaw.proofs.rithennaw_post.Tie as tie
+use Rattle.rithennaw.proofs.rithennaw_post.Goals as goal
 
 byte_is : (b : Bool) → bool_byte b ≡ cond b 1 0
 byte_is true = refl
 byte_is false = refl
 
-returns : tie.Need-returns
+pub returns : goal.returns
 returns c =
-    let r = c.before.before.before.post in
-    let k = c.before.before.before.before.before.before in
-    let bytes = every_of IsByte 0 k.before.args.image.now (λ i. (k.shared_slice_known.given i).fits) in
+    let r = c.post-posted in
+    let bytes = every_of IsByte 0 c.args.image.now (λ i. (c.type_inv.image i).fits) in
     let told = byte_is r.result.delivered ∙ ap (λ (b : Bool). cond b 1 0) r.ensures.1 in
     rw r.ensures.0.0 ((refl, refl, r.ensures.0.1, bytes), told, omega arith)
-
-pub rithennaw_post_spec : {M : Type 1} → statement M
-rithennaw_post_spec = tie.close (tie.spec (λ c κs. tt) (λ c. search rules) (λ c. search rules) returns)

@@ -1,0 +1,11 @@
+-- `rithennaw::rithennaw_turns` meets its contract: number, length and busy count are those of the answer.
+use borrow.Author.Rules.{rules}
+use mathlib.Core.Path.{refl}
+use Rattle.wire.proofs.Lists.{IsByte, every_of}
+use Rattle.rithennaw.proofs.rithennaw_turns.Goals as goal
+
+pub returns : goal.returns
+returns c =
+    let r = c.turns-turned in
+    let bytes = every_of IsByte 0 c.args.image.now (λ i. (c.type_inv.image i).fits) in
+    rw r.ensures.0 ((refl, refl, r.ensures.1, bytes), refl)
