@@ -5,6 +5,9 @@
 
 ghost use Rattle.std.specs.Prelude.{◌<◌};
 
+use std::io;
+use std::io::Write;
+
 // More than any image has, so that a longer input is seen to be longer.
 const READ_MAX: usize = 8192;
 
@@ -13,35 +16,31 @@ const TOLD: usize = 32;
 
 // Prints slot s: for each label 1 where there is room for one more message, else 0, and then how many were looked at. Both are 0 in
 // an unused slot.
-fn print_slot(table: &table::Table, s: usize)
+fn print_slot<W: Write>(target: &mut W, table: &table::Table, s: usize) -> io::Result<()>
     requires { s < 16 }
 {
     let mut told: [u8; TOLD] = [0; TOLD];
-    if table::kind(table, s) == 0 {
-        io::write_all(1, &told);
-        return;
-    }
-    let mut label: u8 = 0;
-    while label < 16 {
-        let looked = search::look(table, s, label);
-        told[2 * (label as usize)] = looked.room as u8;
-        // at most 64, of which the remainder spares a proof
-        told[2 * (label as usize) + 1] = (looked.looked % 256) as u8;
-        label += 1;
-    }
-    io::write_all(1, &told);
-}
-
-fn main() {
-    let mut input: [u8; READ_MAX] = [0; READ_MAX];
-    let n = io::read_full(0, &mut input);
-    if judge::number(&input[..n]) == 0 {
-        let mut table: table::Table = [0; table::WORDS];
-        loader::load(&mut table, &input[..n]);
-        let mut s: usize = 0;
-        while s < 16 {
-            print_slot(&table, s);
-            s += 1;
+    if table::kind(table, s) != 0 {
+        for label in 0..16 {
+            let looked = search::look(table, s, label as u8);
+            told[2 * label] = looked.room as u8;
+            // at most 64, of which the remainder spares a proof
+            told[2 * label + 1] = (looked.looked % 256) as u8;
         }
     }
+    target.write_all(&told)
+}
+
+fn main(rt: HostRuntime) -> io::Result<()> {
+    let mut bytes: [u8; READ_MAX] = [0; READ_MAX];
+    let n = input::read_full(&mut rt.stdin(), &mut bytes)?;
+    let image = &bytes[..n];
+    if judge::number(image) == 0 {
+        let mut table: table::Table = [0; table::WORDS];
+        loader::load(&mut table, image);
+        for s in 0..16 {
+            print_slot(&mut rt.stdout(), &table, s)?;
+        }
+    }
+    Ok(())
 }
