@@ -1,5 +1,4 @@
 -- `calls::post` meets its contract: an accepted image is loaded, the message is delivered or dropped, and it is written for label 15.
-use borrow.Author.Rules.{rules}
 use Prim.Native.Nat.{ℕ, ◌^◌, ◌<◌, ◌≤◌}
 use mathlib.Core.Logic.{◌≢◌}
 use mathlib.Core.Path.{◌≡◌, refl, sym, ap, ◌∙◌}

@@ -1,5 +1,4 @@
 -- `calls::rewrite` meets its contract: the view for label 15.
-use borrow.Author.Rules.{rules}
 use mathlib.Core.Path.{◌∙◌}
 use Rattle.wire.proofs.Lists.{IsByte, every_of}
 use Rattle.calls.proofs.Pipeline.{view_rewrites}

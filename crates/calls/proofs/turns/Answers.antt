@@ -1,8 +1,5 @@
 -- `calls::turns` meets its contract: an accepted image is loaded, its turns are carried out, and it is written for label 15.
-use borrow.Author.Rules.{rules}
-use Prim.Native.Nat.{ℕ}
 use mathlib.Core.Path.{◌≡◌, sym, ap, ◌∙◌}
-use mathlib.Core.List.{List}
 use native.Mathlib.Omega.{arith}
 use borrow.Author.Tests.{le-leb, lt-leb}
 use Rattle.wire.specs.Lists.{Bytes}
@@ -27,7 +24,7 @@ turns-ran-requires c =
     let all : Bytes image = every_of IsByte 0 image (λ i. (c.type_inv.image i).fits) in
     let accepted : image_number image ≡ 0 = sym c.number-number.ensures ∙ c.if-number-eq0.true in
     let same : running c.program.result.now c.turn_slot-turn.result c.load.new.table ≡ with_version 2 (state_of image) =
-        state_loaded image _ _ _ c.program.ensures c.turn_slot-turn.ensures c.load.ensures in
+    state_loaded image _ _ _ c.program.ensures c.turn_slot-turn.ensures c.load.ensures in
     loaded_valid image all accepted same
 
 -- more than 1,000,000 turns
@@ -43,7 +40,7 @@ returns-then-number-eq0 c =
     let all : Bytes image = every_of IsByte 0 image (λ i. (c.type_inv.image i).fits) in
     let accepted : image_number image ≡ 0 = sym c.number-number.ensures ∙ c.if-number-eq0.true in
     let same : running c.program.result.now c.turn_slot-turn.result c.load.new.table ≡ with_version 2 (state_of image) =
-        state_loaded image _ _ _ c.program.ensures c.turn_slot-turn.ensures c.load.ensures in
+    state_loaded image _ _ _ c.program.ensures c.turn_slot-turn.ensures c.load.ensures in
     let r = c.turns-ran in
     let n = c.args.count in
     let told_as = ran_as n image same in

@@ -1,5 +1,4 @@
 -- `calls::view` meets its contract: an accepted image is loaded, and written for the observer.
-use borrow.Author.Rules.{rules}
 use Prim.Native.Nat.{ℕ}
 use mathlib.Core.Path.{◌≡◌, refl, sym, ap, ◌∙◌}
 use native.Mathlib.Omega.{arith}

@@ -1,5 +1,4 @@
 -- `calls::write_answer` meets its contract: what is told is told of the length that was written, or would have been.
-use borrow.Author.Rules.{rules}
 use Rattle.snapshot.specs.Writing.{snapshot_bytes}
 use Rattle.monitor.proofs.Calls.{told_written}
 use Rattle.calls.proofs.write_answer.Goals as goal

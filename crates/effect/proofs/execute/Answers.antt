@@ -1,5 +1,4 @@
 -- `effect::execute` meets its contract. An arm has a line for its operands, one for what its effect asks, and one for what it does.
-use Rattle.std.proofs.Common.{rules}
 use Rattle.table.proofs.Slots.{used_slot}
 use Rattle.effect.proofs.Effects.{decoded_as, sound, by_form}
 use Rattle.effect.proofs.execute.Goals as goal

@@ -1,5 +1,5 @@
 -- `effect::identity` meets its contract: register a first.
-use Rattle.std.proofs.Common.{refl, arith}
+use Rattle.std.proofs.Common.{refl}
 use Rattle.machine.specs.State.{with_register}
 use Rattle.table.proofs.Change.{change_change}
 use Rattle.table.proofs.Slots.{used_slot}

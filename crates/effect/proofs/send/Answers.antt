@@ -1,8 +1,8 @@
 -- `effect::send` meets its contract: the place, then the message.
-use Rattle.std.proofs.Common.{◌≡◌, ℕ, List, sym, refl, ◌∙◌, true, arith}
+use Rattle.std.proofs.Common.{◌≡◌, ℕ, List, sym, refl, ◌∙◌, true}
 use Rattle.label.specs.Label.{flows}
 use Rattle.instruction.specs.declared.Instruction.TheVariants.{Send}
-use Rattle.machine.specs.State.{Message, Slot, Task, next, register}
+use Rattle.machine.specs.State.{Message, Slot, next, register}
 use Rattle.machine.specs.Effect.{deliver}
 use Rattle.machine.specs.Turn.{perform}
 use Rattle.table.specs.Table.{slots_in}

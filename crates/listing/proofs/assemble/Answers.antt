@@ -1,13 +1,9 @@
 -- `listing::assemble` meets its contract: a list has the number of the lines that were kept of it, and their bytes are copied.
-use borrow.Author.Rules.{rules}
-use Prim.Native.Nat.{◌≤◌}
 use mathlib.Core.Path.{◌≡◌, refl, sym, ◌∙◌}
 use native.Mathlib.Omega.{arith}
-use lib.ListN.{length}
 use lib.Seq.{length-take-le}
 use Rattle.monitor.proofs.Calls.{call_refused, call_accepted}
 use Rattle.listing.specs.Listing.{lines_number, assemble_call, no_list_call}
-use Rattle.listing.specs.Inner.{Kept, kept_number}
 use Rattle.listing.proofs.Assembled.{is_list, is_none, kept_number_lem, kept_few, kept_bytes_lem, list_promise, other_promise}
 use Rattle.listing.proofs.assemble.Goals as goal
 

@@ -1,5 +1,4 @@
 -- `listing::disassemble` meets its contract: the listing of an accepted program is made in a buffer that is long enough, and copied.
-use borrow.Author.Rules.{rules}
 use mathlib.Core.Path.{◌≡◌, refl, sym, ap, ◌∙◌}
 use mathlib.Core.List.{List}
 use Prim.Native.Nat.{ℕ, ◌≤◌}

@@ -1,5 +1,4 @@
 -- `listing::keep_line` meets its contract: the four bytes are copied behind those of the lines before, where there is room.
-use borrow.Author.Rules.{rules}
 use native.Mathlib.Omega.{arith}
 use Rattle.listing.proofs.Keeping.{kept_room, kept_none}
 use Rattle.listing.proofs.keep_line.Goals as goal

@@ -1,5 +1,4 @@
 -- `listing::put_line` meets its contract: the numbers are written behind the word.
-use borrow.Author.Rules.{rules}
 use Prim.Native.Nat.{ℕ}
 use mathlib.Core.List.{List, [], ◌∷◌}
 use native.Mathlib.Omega.{arith}

@@ -1,8 +1,8 @@
-use Prim.Native.Nat.{◌-◌, ◌/◌, ◌<◌, ◌≤◌}
+use Prim.Native.Nat.{◌<◌, ◌≤◌}
 use native.Mathlib.Omega.{arith}
 use lib.ListN.{length}
 use Rattle.wire.specs.Items.{encode_items}
-use Rattle.wire.proofs.Output.{ItemsWritten, items_none, item_room, item_part, items_more, items_size, items_all}
+use Rattle.wire.proofs.Output.{items_none, item_room, item_part, items_more, items_size, items_all}
 use Rattle.instruction.specs.Program.{count}
 use Rattle.listing.specs.Listing.{line_text, listing_text, lines_of}
 use Rattle.listing.proofs.Program.{no_line, lines_many, line_item}

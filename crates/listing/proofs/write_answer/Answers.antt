@@ -1,5 +1,4 @@
 -- `listing::write_answer` meets its contract: the answer is copied where the output has room for it.
-use borrow.Author.Rules.{rules}
 use mathlib.Core.Path.{refl}
 use Rattle.monitor.proofs.Calls.{told_written}
 use Rattle.listing.proofs.write_answer.Goals as goal

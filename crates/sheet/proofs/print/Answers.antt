@@ -1,5 +1,4 @@
 -- `sheet::print` meets its contract: the sheet, or a line that tells the refusal.
-use borrow.Author.Rules.{rules}
 use Prim.Native.Nat.{ℕ, ◌<◌, ◌≤◌}
 use mathlib.Core.Logic.{◌≢◌}
 use mathlib.Core.Path.{◌≡◌, sym, ap, ◌∙◌}
@@ -12,7 +11,7 @@ use Rattle.wire.proofs.Output.{rest}
 use Rattle.machine.specs.Limits.{sheet_room}
 use Rattle.monitor.specs.declared.Answer.{Answer}
 use Rattle.monitor.specs.Calls.{call_answer, call_output}
-use Rattle.sheet.specs.Sheet.{sheet_call, refusal_line, printed, printed_for}
+use Rattle.sheet.specs.Sheet.{sheet_call, refusal_line, printed}
 use Rattle.sheet.proofs.Sheet.{refusal_length}
 use Rattle.sheet.proofs.Printed.{printed_long, printed_empty, printed_parts, printed_accepted, printed_refused}
 use Rattle.sheet.proofs.print.Goals as goal
@@ -52,9 +51,9 @@ returns-then-told-eq0 c =
     let output = c.args.out.now in
     let all = bytes input (λ i. (c.type_inv.input i).fits) in
     let told : c.write-told.result ≡ call_answer (sheet_call (get_or input 0 0) (drop 1 input)) output =
-        c.write-told.ensures.0 ∙ ap (λ (b : List ℕ). call_answer (sheet_call (get_or input 0 0) b) output) (rest 1 input) in
+    c.write-told.ensures.0 ∙ ap (λ (b : List ℕ). call_answer (sheet_call (get_or input 0 0) b) output) (rest 1 input) in
     let wrote : c.write-told.new.out ≡ call_output (sheet_call (get_or input 0 0) (drop 1 input)) output =
-        c.write-told.ensures.1 ∙ ap (λ (b : List ℕ). call_output (sheet_call (get_or input 0 0) b) output) (rest 1 input) in
+    c.write-told.ensures.1 ∙ ap (λ (b : List ℕ). call_output (sheet_call (get_or input 0 0) b) output) (rest 1 input) in
     let number = sym (ap (λ (a : Answer). a.number) told) ∙ c.if-told-eq0.true in
     let law = printed_accepted (get_or input 0 0) (drop 1 input) output all (omega (arith, c.told-out)) number in
     let long = ap (λ (a : Answer). a.length) told ∙ law.0 in
@@ -66,9 +65,9 @@ returns-else-told-eq0 c =
     let output = c.args.out.now in
     let all = bytes input (λ i. (c.type_inv.input i).fits) in
     let told : c.write-told.result ≡ call_answer (sheet_call (get_or input 0 0) (drop 1 input)) output =
-        c.write-told.ensures.0 ∙ ap (λ (b : List ℕ). call_answer (sheet_call (get_or input 0 0) b) output) (rest 1 input) in
+    c.write-told.ensures.0 ∙ ap (λ (b : List ℕ). call_answer (sheet_call (get_or input 0 0) b) output) (rest 1 input) in
     let wrote : c.write-told.new.out ≡ call_output (sheet_call (get_or input 0 0) (drop 1 input)) output =
-        c.write-told.ensures.1 ∙ ap (λ (b : List ℕ). call_output (sheet_call (get_or input 0 0) b) output) (rest 1 input) in
+    c.write-told.ensures.1 ∙ ap (λ (b : List ℕ). call_output (sheet_call (get_or input 0 0) b) output) (rest 1 input) in
     let r = refused input output c.write-told.new.out c.write-told.result c.if-input-gt-INPUT_MAX.false c.if-input-eq0.false all c.told-out told wrote c.if-told-eq0.false in
     let line = c.put_refusal-else-told-eq0.ensures in
     (line.0 ∙ sym (ap length r.0), omega (arith, line.0, ap length r.0, r.2), line.1 ∙ rw (r.0, r.1))
@@ -79,8 +78,8 @@ put_refusal-requires-else-told-eq0 c =
     let output = c.args.out.now in
     let all = bytes input (λ i. (c.type_inv.input i).fits) in
     let told : c.write-told.result ≡ call_answer (sheet_call (get_or input 0 0) (drop 1 input)) output =
-        c.write-told.ensures.0 ∙ ap (λ (b : List ℕ). call_answer (sheet_call (get_or input 0 0) b) output) (rest 1 input) in
+    c.write-told.ensures.0 ∙ ap (λ (b : List ℕ). call_answer (sheet_call (get_or input 0 0) b) output) (rest 1 input) in
     let wrote : c.write-told.new.out ≡ call_output (sheet_call (get_or input 0 0) (drop 1 input)) output =
-        c.write-told.ensures.1 ∙ ap (λ (b : List ℕ). call_output (sheet_call (get_or input 0 0) b) output) (rest 1 input) in
+    c.write-told.ensures.1 ∙ ap (λ (b : List ℕ). call_output (sheet_call (get_or input 0 0) b) output) (rest 1 input) in
     let r = refused input output c.write-told.new.out c.write-told.result c.if-input-gt-INPUT_MAX.false c.if-input-eq0.false all c.told-out told wrote c.if-told-eq0.false in
     omega (arith, ap length r.0, r.2, c.write-told.auto.out, c.told-out)

@@ -1,7 +1,6 @@
-use Prim.Native.Nat.{◌-◌, ◌≤◌}
 use native.Mathlib.Omega.{arith}
 use Rattle.table.specs.Table.{slots_in}
-use Rattle.sheet.proofs.Shown.{LinesWritten, lines_none, line_room, line_part, lines_more, lines_size, lines_all}
+use Rattle.sheet.proofs.Shown.{lines_none, line_room, line_part, lines_more, lines_size, lines_all}
 use Rattle.sheet.proofs.put_lines.Goals as goal
 
 pub put_line-at-requires : goal.put_line-at-requires

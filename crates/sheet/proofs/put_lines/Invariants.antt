@@ -1,8 +1,7 @@
 -- `sheet::put_lines` meets its contract: the lines of the first slots are written.
 use Prim.Native.Nat.{◌-◌, ◌≤◌}
-use native.Mathlib.Omega.{arith}
 use Rattle.table.specs.Table.{slots_in}
-use Rattle.sheet.proofs.Shown.{LinesWritten, lines_none, line_room, line_part, lines_more, lines_size, lines_all}
+use Rattle.sheet.proofs.Shown.{LinesWritten}
 use Rattle.sheet.proofs.put_lines.Given as goal
 
 abbrev pub invariant-loop-slot : goal.invariant-loop-slot

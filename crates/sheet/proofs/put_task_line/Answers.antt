@@ -1,7 +1,7 @@
 -- `sheet::put_task_line` meets its contract: the slot's number, and what was read of the task behind it.
 use Prim.Native.Nat.{ℕ, ◌≤◌}
 use mathlib.Core.Path.{◌≡◌}
-use mathlib.Core.List.{List, [], ◌∷◌, ◌++◌}
+use mathlib.Core.List.{List, ◌++◌}
 use native.Mathlib.Omega.{arith}
 use lib.ListN.{length, length-append}
 use Rattle.wire.specs.Output.{overwrite}
@@ -9,7 +9,7 @@ use Rattle.wire.proofs.Output.{FrontWritten, part_inside, part_room, both_writte
 use Rattle.table.specs.Table.{slots_in}
 use Rattle.table.specs.Change.{task_at}
 use Rattle.table.proofs.Slots.{used_slot}
-use Rattle.text.specs.Text.{decimal, line_rest}
+use Rattle.text.specs.Text.{decimal}
 use Rattle.sheet.proofs.Shown.{task_line}
 use Rattle.sheet.proofs.put_task_line.Goals as goal
 

@@ -1,5 +1,4 @@
 -- `sheet::write` meets its contract: an accepted image is loaded, and the sheet of the table's tasks written.
-use borrow.Author.Rules.{rules}
 use mathlib.Core.Path.{◌≡◌, refl, sym, ◌∙◌}
 use native.Mathlib.Omega.{arith}
 use borrow.Author.Tests.{le-leb, lt-leb}

@@ -1,5 +1,4 @@
 -- `sheet::write_answer` meets its contract: the sheet is copied where the output has room for it.
-use borrow.Author.Rules.{rules}
 use Prim.Native.Nat.{ℕ}
 use mathlib.Core.Path.{◌≡◌, sym, ap, ◌∙◌}
 use mathlib.Core.List.{List}

@@ -2,7 +2,6 @@
 use mathlib.Core.Path.{◌∙◌}
 use native.Mathlib.Omega.{arith}
 use Rattle.table.specs.Table.{slots_in}
-use Rattle.table.specs.Change.{Used}
 use Rattle.table.proofs.Change.{kind_used}
 use Rattle.table.proofs.Slots.{kind_none}
 use Rattle.snapshot.proofs.Writing.{shown_flows, shown_none}

@@ -1,5 +1,4 @@
 -- `snapshot::put_message` meets its contract: label and sender, and the value behind them.
-use borrow.Author.Rules.{rules}
 use mathlib.Core.Path.{refl, ap, ◌∙◌}
 use mathlib.Core.List.{[], ◌∷◌}
 use native.Mathlib.Omega.{arith}

@@ -1,9 +1,8 @@
-use Prim.Native.Nat.{◌+◌, ◌-◌, ◌*◌, ◌<◌, ◌≤◌}
-use mathlib.Core.Path.{◌≡◌, sym}
+use Prim.Native.Nat.{◌<◌}
+use mathlib.Core.Path.{sym}
 use native.Mathlib.Nat.{zero-add}
 use native.Mathlib.Omega.{arith}
-use lib.ListN.{length, drop}
-use Rattle.wire.specs.Items.{encode_items}
+use lib.ListN.{length}
 use Rattle.wire.proofs.Items.{count_next, count_all}
 use Rattle.machine.specs.State.{unused}
 use Rattle.table.specs.Table.{slots_in}

@@ -1,14 +1,9 @@
 -- `snapshot::slots_size` meets its contract: the first slots are counted.
-use Prim.Native.Nat.{◌+◌, ◌-◌, ◌*◌, ◌<◌, ◌≤◌}
-use mathlib.Core.Path.{◌≡◌, sym}
-use native.Mathlib.Nat.{zero-add}
-use native.Mathlib.Omega.{arith}
+use Prim.Native.Nat.{◌+◌, ◌-◌, ◌*◌, ◌≤◌}
+use mathlib.Core.Path.{◌≡◌}
 use lib.ListN.{length, drop}
 use Rattle.wire.specs.Items.{encode_items}
-use Rattle.wire.proofs.Items.{count_next, count_all}
-use Rattle.machine.specs.State.{unused}
 use Rattle.table.specs.Table.{slots_in}
-use Rattle.table.proofs.Change.{length_slots}
 use Rattle.snapshot.specs.Writing.{shown_slot}
 use Rattle.snapshot.proofs.slots_size.Given as goal
 

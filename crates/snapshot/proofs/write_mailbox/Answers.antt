@@ -1,6 +1,5 @@
-use Prim.Native.Nat.{◌-◌, ◌*◌, ◌≤◌}
 use native.Mathlib.Omega.{arith}
-use Rattle.wire.proofs.Output.{ItemsWritten, items_none, item_part, items_more, items_all}
+use Rattle.wire.proofs.Output.{items_none, item_part, items_more, items_all}
 use Rattle.table.specs.Table.{slots_in}
 use Rattle.machine.specs.State.{no_message}
 use Rattle.table.specs.Change.{task_at}

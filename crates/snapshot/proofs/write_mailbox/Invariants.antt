@@ -1,9 +1,7 @@
 -- `snapshot::write_mailbox` meets its contract: the first i messages are written.
 use Prim.Native.Nat.{◌-◌, ◌*◌, ◌≤◌}
-use native.Mathlib.Omega.{arith}
-use Rattle.wire.proofs.Output.{ItemsWritten, items_none, item_part, items_more, items_all}
+use Rattle.wire.proofs.Output.{ItemsWritten}
 use Rattle.table.specs.Table.{slots_in}
-use Rattle.machine.specs.State.{no_message}
 use Rattle.table.specs.Change.{task_at}
 use Rattle.snapshot.specs.Writing.{shown_message}
 use Rattle.snapshot.proofs.write_mailbox.Given as goal

@@ -5,7 +5,7 @@ use lib.ListN.{length, take, drop}
 use Rattle.wire.specs.Numbers.{encode_number}
 use Rattle.wire.specs.Items.{encode_items}
 use Rattle.machine.specs.State.{register}
-use Rattle.wire.proofs.Output.{written_fits, ItemsWritten, items_none, item_part, items_more, items_all}
+use Rattle.wire.proofs.Output.{written_fits, items_none, item_part, items_more, items_all}
 use Rattle.image.proofs.Records.{length_registers}
 use Rattle.table.specs.Table.{slots_in}
 use Rattle.table.specs.Change.{task_at}

@@ -1,16 +1,9 @@
 -- `snapshot::write_registers` meets its contract: the first a registers are written.
-use Prim.Native.Nat.{◌+◌, ◌-◌, ◌*◌, ◌≤◌}
-use mathlib.Core.Path.{◌≡◌, ◌∙◌}
-use native.Mathlib.Omega.{arith}
-use lib.ListN.{length, take, drop}
+use Prim.Native.Nat.{◌-◌, ◌*◌, ◌≤◌}
 use Rattle.wire.specs.Numbers.{encode_number}
-use Rattle.wire.specs.Items.{encode_items}
-use Rattle.machine.specs.State.{register}
-use Rattle.wire.proofs.Output.{written_fits, ItemsWritten, items_none, item_part, items_more, items_all}
-use Rattle.image.proofs.Records.{length_registers}
+use Rattle.wire.proofs.Output.{ItemsWritten}
 use Rattle.table.specs.Table.{slots_in}
 use Rattle.table.specs.Change.{task_at}
-use Rattle.table.proofs.Slots.{used_registers}
 use Rattle.snapshot.proofs.write_registers.Given as goal
 
 abbrev pub invariant-loop-a : goal.invariant-loop-a

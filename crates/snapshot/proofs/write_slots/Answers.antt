@@ -1,7 +1,7 @@
-use Prim.Native.Nat.{◌-◌, ◌*◌, ◌<◌, ◌≤◌}
+use Prim.Native.Nat.{◌<◌}
 use native.Mathlib.Omega.{arith}
 use lib.ListN.{length}
-use Rattle.wire.proofs.Output.{ItemsWritten, items_none, item_part, items_more, items_all}
+use Rattle.wire.proofs.Output.{items_none, item_part, items_more, items_all}
 use Rattle.machine.specs.State.{unused}
 use Rattle.table.specs.Table.{slots_in}
 use Rattle.table.proofs.Change.{length_slots}

@@ -1,11 +1,7 @@
 -- `snapshot::write_slots` meets its contract: the first slots are written.
-use Prim.Native.Nat.{◌-◌, ◌*◌, ◌<◌, ◌≤◌}
-use native.Mathlib.Omega.{arith}
-use lib.ListN.{length}
-use Rattle.wire.proofs.Output.{ItemsWritten, items_none, item_part, items_more, items_all}
-use Rattle.machine.specs.State.{unused}
+use Prim.Native.Nat.{◌-◌, ◌*◌, ◌≤◌}
+use Rattle.wire.proofs.Output.{ItemsWritten}
 use Rattle.table.specs.Table.{slots_in}
-use Rattle.table.proofs.Change.{length_slots}
 use Rattle.snapshot.specs.Writing.{shown_slot}
 use Rattle.snapshot.proofs.write_slots.Given as goal
 

@@ -1,5 +1,4 @@
 -- `snapshot::write_task` meets its contract: each part behind those before.
-use borrow.Author.Rules.{rules}
 use Prim.Native.Nat.{ℕ, ◌+◌}
 use mathlib.Core.Path.{◌≡◌, ap₂}
 use mathlib.Core.List.{[], ◌∷◌, ◌++◌}

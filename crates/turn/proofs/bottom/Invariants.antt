@@ -1,13 +1,7 @@
 -- `turn::bottom` meets its contract: no slot below the one at hand is used.
 use Prim.Native.Nat.{◌≤◌, ◌-◌}
-use mathlib.Core.Bool.{Bool, not}
-use native.Mathlib.Omega.{arith}
-use Rattle.wire.proofs.Lists.{first_here, first_next, first_past}
-use Rattle.machine.specs.State.{Slot, unused, is_unused}
 use Rattle.machine.specs.Inner.{bottom_of}
 use Rattle.table.specs.Table.{slots_in}
-use Rattle.table.proofs.Change.{length_slots, kind_used}
-use Rattle.table.proofs.Slots.{kind_none}
 use Rattle.turn.proofs.bottom.Given as goal
 
 abbrev pub invariant-loop-slot : goal.invariant-loop-slot

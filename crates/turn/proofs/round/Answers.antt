@@ -2,7 +2,7 @@ use Prim.Native.Nat.{ℕ, ◌+◌, ◌-◌, ◌%◌, ◌≤◌, ◌<◌, min}
 use mathlib.Core.Path.{◌≡◌}
 use mathlib.Core.Logic.{dite}
 use mathlib.Core.List.{List}
-use mathlib.Core.Bool.{true, false}
+use mathlib.Core.Bool.{false}
 use native.Mathlib.Decide.{dec_lt}
 use native.Mathlib.Omega.{arith}
 use borrow.Author.Tests.{leb-true}
@@ -94,14 +94,14 @@ returns c =
     let s = running a.program.now a.first a.table.now in
     let m = min h.slot a.end in
     let at_end : Ran s a.program.now (a.end - a.first) (a.end % 16) (slots_in h.table) (h.slot - c.max-from.result - h.idle) =
-        dite (dec_lt m a.end)
-        (λ l.
-        let here : m % 16 ≡ m = omega (arith, c.requires.2) in
-        let within = ran_within h.invariant.3 a.bottom a.top c.requires.3 in
-        let past = ran_past (rw here at h.invariant.3) (a.end - m) (omega (arith, c.requires.2)) (omega (arith, c.requires.2))
-        (λ j g _. idle_above a.bottom a.top (slots_in h.table) within j (omega (arith, c.min-stop.ensures))) in
-        let turns : m - a.first + (a.end - m) ≡ a.end - a.first = omega (arith, h.invariant.0, c.requires.1) in
-        let slot : m + (a.end - m) ≡ a.end = omega arith in
-        rw slot at (rw turns at past))
-        (λ l. let all : m ≡ a.end = omega arith in rw all at h.invariant.3) in
+    dite (dec_lt m a.end)
+    (λ l.
+    let here : m % 16 ≡ m = omega (arith, c.requires.2) in
+    let within = ran_within h.invariant.3 a.bottom a.top c.requires.3 in
+    let past = ran_past (rw here at h.invariant.3) (a.end - m) (omega (arith, c.requires.2)) (omega (arith, c.requires.2))
+    (λ j g _. idle_above a.bottom a.top (slots_in h.table) within j (omega (arith, c.min-stop.ensures))) in
+    let turns : m - a.first + (a.end - m) ≡ a.end - a.first = omega (arith, h.invariant.0, c.requires.1) in
+    let slot : m + (a.end - m) ≡ a.end = omega arith in
+    rw slot at (rw turns at past))
+    (λ l. let all : m ≡ a.end = omega arith in rw all at h.invariant.3) in
     (at_end.met_is, at_end.state)

@@ -1,7 +1,5 @@
-use Prim.Native.Nat.{◌≤◌, ◌-◌}
 use mathlib.Core.Path.{◌≡◌, ◌∙◌}
 use native.Mathlib.Omega.{arith}
-use Rattle.machine.specs.Inner.{top_of}
 use Rattle.machine.proofs.Bounds.{top_none, top_next}
 use Rattle.table.specs.Table.{slots_in}
 use Rattle.turn.proofs.top.Goals as goal

@@ -1,9 +1,7 @@
 -- `turn::top` meets its contract: the slots ahead of the one at hand have been looked at.
 use Prim.Native.Nat.{◌≤◌, ◌-◌}
-use mathlib.Core.Path.{◌≡◌, ◌∙◌}
-use native.Mathlib.Omega.{arith}
+use mathlib.Core.Path.{◌≡◌}
 use Rattle.machine.specs.Inner.{top_of}
-use Rattle.machine.proofs.Bounds.{top_none, top_next}
 use Rattle.table.specs.Table.{slots_in}
 use Rattle.turn.proofs.top.Given as goal
 

@@ -7,7 +7,7 @@ use Rattle.machine.proofs.Machine.{busy_most}
 use Rattle.machine.proofs.Bounds.{valid_sixteen, valid_within}
 use Rattle.table.specs.Table.{slots_in}
 use Rattle.turn.specs.Answer.{running}
-use Rattle.turn.proofs.Steps.{Ran, ran_none, ran_round, ran_valid, ran_within}
+use Rattle.turn.proofs.Steps.{ran_none, ran_round, ran_valid, ran_within}
 use Rattle.turn.proofs.turns.Goals as goal
 
 pub loop-left-init : goal.loop-left-init
