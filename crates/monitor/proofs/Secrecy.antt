@@ -6,7 +6,7 @@ use mathlib.Core.Bool.{Bool, true, false, cond}
 use mathlib.Core.List.{List, [], ◌∷◌, ◌++◌}
 use native.Mathlib.Nat.{add-zero, zero-add}
 use native.Mathlib.Omega.{arith}
-use lib.ListN.{length, replicate, length-replicate}
+use lib.ListN.{length, take, replicate, length-replicate}
 use Rattle.wire.specs.Lists.{Every}
 use Rattle.wire.proofs.Lists.{split}
 use Rattle.label.specs.Label.{flows}
@@ -17,7 +17,7 @@ use Rattle.machine.specs.Valid.{Valid}
 use Rattle.machine.specs.Machine.{turns, view}
 use Rattle.machine.proofs.Machine.{turns_valid, turns_none, turns_add, turns_same, post_shown, post_hidden}
 use Rattle.image.specs.Image.{state_of, image_bytes}
-use Rattle.monitor.specs.Calls.{view_bytes, view_call}
+use Rattle.monitor.specs.Calls.{call_answer, call_output, view_bytes, view_call}
 use Rattle.monitor.specs.CallList.{Request, ask_turns, ask_post, HostCall, is_accepted, image_after, final_image, turns_asked, turns_of, turns_carried_out}
 use Rattle.monitor.specs.CallList.{VisiblePost, posts_asked, posts_from, visible_posts, Agree, KeptPromises}
 use Rattle.monitor.specs.Claims.{Accepted, EqualViews}
@@ -27,6 +27,11 @@ use Rattle.monitor.proofs.CallList.{read_valid, view_state, carried, kept_valid,
 -- ---- equal views are equal bytes
 
 module _ (v : ℕ) (seen : v ≤ highest_label) where
+  -- the view call for v, given room, writes the view
+  view_shown : (image : List ℕ) → Accepted image → (out : List ℕ) → length (view_bytes v image) ≤ length out
+      → take (call_answer (view_call v image) out).length (call_output (view_call v image) out) ≡ view_bytes v image
+  view_shown image a out room = bytes_written (view_call v image) out (observer_none v seen) a.number room
+
   module _ (image image' : List ℕ) where
     pub equal_bytes : EqualViews v image image' → view_bytes v image ≡ view_bytes v image'
     equal_bytes e =
@@ -34,9 +39,9 @@ module _ (v : ℕ) (seen : v ≤ highest_label) where
         let k' = length (view_bytes v image') in
         let out : List ℕ = replicate (k + k') 0 in
         let l = length-replicate {A = ℕ} (k + k') 0 in
-        sym (bytes_written (view_call v image) out (observer_none v seen) e.left.number (omega arith))
+        sym (view_shown image e.left out (omega arith))
         ∙ (e.shown out out _ _ _ _ refl (refl, refl) (refl, refl)).1
-        ∙ bytes_written (view_call v image') out (observer_none v seen) e.right.number (omega arith)
+        ∙ view_shown image' e.right out (omega arith)
 
     module _ (a : Accepted image) (a' : Accepted image') (e : view_bytes v image ≡ view_bytes v image') where
       pub equal_views : EqualViews v image image'

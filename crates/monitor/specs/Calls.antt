@@ -55,7 +55,7 @@ turns_bytes n image = image_bytes (turns n (state_of image))
 
 abbrev pub turns_call : ℕ → List ℕ → Call
 turns_call n image =
-    record { argument_number = turn_limit_number n; input_number = image_number image; bytes = turns_bytes n image; busy = busy n (state_of image) }
+    record { argument_number = turn_limit_number n; input_number = image_number image; bytes = image_bytes (turns n (state_of image)); busy = busy n (state_of image) }
 
 -- ---- post: the image once the host's message has gone to a slot (02, U1)
 
@@ -64,7 +64,7 @@ post_bytes slot label value image = image_bytes (post slot label value (state_of
 
 abbrev pub post_call : ℕ → ℕ → ℕ → List ℕ → Call
 post_call slot label value image =
-    record { argument_number = post_number slot label; input_number = image_number image; bytes = post_bytes slot label value image; busy = 0 }
+    record { argument_number = post_number slot label; input_number = image_number image; bytes = image_bytes (post slot label value (state_of image)); busy = 0 }
 
 -- "The answer says delivered or dropped [..]; a refusal says dropped."
 abbrev pub post_delivered : ℕ → ℕ → ℕ → List ℕ → List ℕ → Bool

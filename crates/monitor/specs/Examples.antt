@@ -175,7 +175,7 @@ pub record Examples : Type 0 where
       × (delivered 6 0 9 (b 0 0 receiver) ≡ false)
   -- register 3 gets a post's value and register 4 its sender, 16
   pub taken : turns 6 (post 5 0 9 (b 1 0 receiver))
-      ≡ state (program 0) 6 (two 0 (with_kind 4 (sender 1)) 5 took_post)
+      ≡ state (program 0) 6 (two 0 (with_kind 4 (sender 1)) 5 (next (with_register 4 16 (with_register 3 9 receiver))))
   -- U4: at label 0 one of the three is receivable, at label 2 all are, of no messages none; none goes
   pub counted : (turns 1 (state counting 0 (one 0 (backlog 0))) ≡ state counting 1 (one 0 (next (with_register 3 1 (backlog 0)))))
       × (turns 1 (state counting 0 (one 0 (backlog 2))) ≡ state counting 1 (one 0 (next (with_register 3 3 (backlog 2)))))

@@ -1,5 +1,4 @@
 -- `rithennaw::rithennaw_assemble` meets its contract: number and length are those of the answer, whose busy count is 0.
-use borrow.Author.Rules.{rules}
 use mathlib.Core.Path.{◌≡◌}
 use Rattle.wire.proofs.Lists.{IsByte, every_of}
 use Rattle.monitor.specs.declared.Answer.{Answer}

@@ -1,5 +1,4 @@
 -- `rithennaw::rithennaw_check` meets its contract: the number is the monitor's.
-use borrow.Author.Rules.{rules}
 use Rattle.wire.proofs.Lists.{IsByte, every_of}
 use Rattle.rithennaw.proofs.rithennaw_check.Goals as goal
 

@@ -1,5 +1,4 @@
 -- `rithennaw::rithennaw_post` meets its contract: number and length are those of the answer, and delivered is 1, dropped 0.
-use borrow.Author.Rules.{rules}
 use mir.Val.{bool_byte}
 use mathlib.Core.Path.{◌≡◌, refl, ap, ◌∙◌}
 use mathlib.Core.Bool.{Bool, true, false, cond}

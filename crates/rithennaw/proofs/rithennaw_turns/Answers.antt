@@ -1,5 +1,4 @@
 -- `rithennaw::rithennaw_turns` meets its contract: number, length and busy count are those of the answer.
-use borrow.Author.Rules.{rules}
 use mathlib.Core.Path.{refl}
 use Rattle.wire.proofs.Lists.{IsByte, every_of}
 use Rattle.rithennaw.proofs.rithennaw_turns.Goals as goal

@@ -1,5 +1,4 @@
 -- `rithennaw::rithennaw_view` meets its contract: number and length are those of the answer.
-use borrow.Author.Rules.{rules}
 use mathlib.Core.Path.{refl}
 use Rattle.wire.proofs.Lists.{IsByte, every_of}
 use Rattle.rithennaw.proofs.rithennaw_view.Goals as goal
