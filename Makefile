@@ -7,6 +7,9 @@ DESTDIR ?=
 SEEDS ?= 300000
 VERSION := $(shell cat VERSION)
 
+# rt is called in the crates' folders too.
+override RT := $(strip $(if $(findstring /,$(firstword $(RT))),$(abspath $(firstword $(RT))),$(firstword $(RT))) \
+    $(wordlist 2,$(words $(RT)),$(RT)))
 export RT
 # The gate tests the archive that is built here, whatever other one a user's Rust programs link.
 unexport RITHENNAW_LIB_DIR
@@ -19,11 +22,12 @@ archive := target/staticlib/librithennaw.a
 slotsheet := target/bin/slotsheet
 # A program for the tests alone, which is not installed.
 lookprobe := target/bin/lookprobe
-# What these are proved from. The folders are listed too, so that a file that was removed is noticed.
-sources := crates.txt $(shell find crates -name must-fail -prune -o -print)
+# What these are proved from. The folders are listed too, so that a file that was removed is noticed; but not those of the crates,
+# in which rt keeps what it proved and built.
+sources := crates.txt $(shell find crates -mindepth 2 \( -name must-fail -o -name out \) -prune -o -print)
 # rt, with a line for each crate and each edit that is done. That there is one is looked at where it is called and not by a
 # target of its own, since what is built already needs none.
-prove := tools/check-kit && tools/progress $(RT)
+prove := tools/check-kit && tools/progress
 # No package of another's is used, so cargo needs no network. Of make's -j it would only say that it cannot share it.
 cargo := MAKEFLAGS= MFLAGS= $(CARGO) --offline --locked
 cargo_words := --release --manifest-path rust/Cargo.toml
@@ -31,37 +35,41 @@ differential := $(cargo) run $(cargo_words) --package differential -- --slotshee
 prefix := $(abspath $(PREFIX))
 installed := include/rithennaw.h lib/librithennaw.a lib/pkgconfig/rithennaw.pc bin/slotsheet
 
-# One rt at a time: it keeps its files in target/, and uses the processors itself.
+# One rt at a time: it uses the processors itself.
 .NOTPARALLEL:
 # An archive that tools/align has failed on is not taken for one that is built.
 .DELETE_ON_ERROR:
 .PHONY: all lib check test link-test rust-test examples demo desk differential bench install uninstall fmt clean help
 
-# slotsheet first: its rt check proves all crates, side by side, where rt staticlib would prove them one after the other.
+# slotsheet first: all crates are proved side by side for it, where rt lib would prove them one after the other.
 all: $(slotsheet) $(archive) ## prove and build the archive and the program slotsheet
 
 lib: $(archive) ## prove and build the archive for C and Rust, target/staticlib/librithennaw.a
 
+# What rt builds stands in a crate's folder out/, and is copied from there.
 $(archive): $(sources)
-	@$(prove) staticlib rithennaw
+	@$(prove) lib rithennaw
+	@mkdir -p $(@D) && cp crates/rithennaw/out/librithennaw.a $@
 	@tools/align $@
 
-# rt leaves a program alone that has not changed, so the times of both are set here.
 $(slotsheet) $(lookprobe): $(sources)
-	@$(prove) check
-	@touch $(slotsheet) $(lookprobe)
+	@$(prove) all check
+	@tools/progress run slotsheet
+	@tools/progress run lookprobe
+	@mkdir -p $(@D) && cp crates/slotsheet/out/slotsheet crates/lookprobe/out/lookprobe $(@D)
 
 check: ## prove what has changed since the last check
-	@$(prove) check
+	@$(prove) all check
 
 # Quick checks first. Then slotsheet and archive are built once, where rt decides what has changed and not file times
 # (-B), and tested. Proofs wait for each other and leave a processor free, so the longest test of the gate runs beside them. rt ci
-# is last: it removes target/, proves all from nothing, and its count has to be the last line.
+# is last, since its count has to be the last line: it proves all from nothing, but for what an earlier one proved on this machine of the
+# same files, and fails here too where a must-fail edit is bad (tools/progress).
 # tools/tested keeps the hashes of what was tested, for make install; they count once all has passed.
-test: ## the whole gate: every test, then every proof from nothing and every must-fail edit
+test: ## the whole gate: every test, then every proof and every must-fail edit
 	@tools/tested forget
 	@tools/check-kit
-	@$(RT) fmt --check
+	@tools/layout check
 	@tools/check-claims
 	@tools/check-version
 	@tests/kit/run
@@ -118,10 +126,10 @@ uninstall: ## remove what install put there
 	rm -f $(foreach file,$(installed),$(call below,$(file)))
 
 fmt: ## lay out every source that is proved
-	@tools/check-kit && $(RT) fmt
+	@tools/check-kit && tools/layout write
 
 clean: ## remove what was built
-	@rm -rf target build rust/target
+	@rm -rf target build rust/target crates/*/out
 
 help: ## list the targets
 	@awk -F ':.*## ' '/^[a-z-]+:.*## / { printf "make %-14s%s\n", $$1, $$2 }' Makefile

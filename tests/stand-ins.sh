@@ -13,11 +13,17 @@ program() { # FILE: what standard input has
     chmod +x "$1"
 }
 
-mkdir -p "$repository/tools" "$repository/.ci" "$repository/crates/rithennaw" "$repository/include"
+mkdir -p "$repository/tools" "$repository/.ci" "$repository/include"
 for file in Makefile .ci/run KIT VERSION rithennaw.pc.in include/rithennaw.h $tried; do
     cp "$root/$file" "$repository/$file"
 done
-echo 'rithennaw:' >"$repository/crates.txt"
+printf '%s:\n' 'rithennaw staticlib' slotsheet lookprobe >"$repository/crates.txt"
+for crate in rithennaw slotsheet lookprobe; do
+    mkdir -p "$repository/crates/$crate/src"
+    echo 'fn code() {}' >"$repository/crates/$crate/src/lib.rt"
+    # what the stand-in for a program prints is what it reads
+    echo input | tee "$repository/crates/$crate/stdin" >"$repository/crates/$crate/stdout"
+done
 : >"$repository/failing"
 program "$repository/step" <<'END_OF_PROGRAM'
 #!/bin/sh
@@ -29,22 +35,31 @@ for name in $(grep -oE '(tools|tests|examples)/[a-z/-]+' "$root/Makefile" | sort
     printf '#!/bin/sh\nexec ./step %s "$@"\n' "$name" | program "$repository/$name"
 done
 
-# rt keeps in `environment` the variables that it is given, and fails if there is standard input. It obeys RATTLE_HOME, as the
-# kit's does.
+# rt keeps in `environment` the variables that it is given, and fails if there is standard input, but for a program. It obeys
+# RT_ALLOW_C, as the kit's does, and its ci sets each folder out/ aside and puts it back. `failing` may say `bad edits` too.
 program "$bin/rt" <<'END_OF_PROGRAM'
 #!/bin/sh
-[ -z "${RATTLE_HOME:-}" ] || { echo '999 passed, 0 failed'; exit 0; }
+[ -z "${RT_ALLOW_C:-}" ] || { echo '999 passed, 0 failed'; exit 0; }
+crate=${PWD##*/}
+cd "$(dirname "$0")/../repository"
 case $1 in
 version) exec cat version ;;
-ci) rm -rf target ;;
+lib | run) set -- "$1" "$crate" ;;
+ci) for out in crates/*/out; do [ ! -d "$out" ] || { mv "$out" aside && mv aside "$out"; }; done ;;
 esac
 env >environment
-! read -r line || { echo 'rt: there is standard input'; exit 1; }
+[ "$1" = run ] || ! read -r line || { echo 'rt: there is standard input'; exit 1; }
 ./step rt "$@" || { [ "$1" != ci ] || echo '7 passed, 1 failed'; exit 1; }
+out=crates/$crate/out
 case $1 in
-staticlib) mkdir -p target/staticlib && echo archive >target/staticlib/librithennaw.a ;;
-check) mkdir -p target/bin && echo slotsheet >target/bin/slotsheet && echo lookprobe >target/bin/lookprobe ;;
-ci) echo '8 passed, 0 failed' ;;
+lib) mkdir -p "$out" && echo archive >"$out/lib$crate.a" ;;
+run) mkdir -p "$out" && echo "$crate" >"$out/$crate" && cat ;;
+ci)
+    bad=', 1 bad'
+    grep -qxF 'bad edits' failing || bad=''
+    echo "rt: ok; handles allowed: none; must-fail edits: 5 refused$bad; every proof and must-fail edit was done in this run"
+    echo '8 passed, 0 failed'
+    ;;
 esac
 END_OF_PROGRAM
 cp "$repository/KIT" "$repository/version"
