@@ -43,15 +43,15 @@ fn the_headers_limits_are_the_definitions() {
     let header = header();
     let limits = file("crates/machine/specs/Limits.antt");
     let names = [
-        ("IMAGE_MIN", "shortestImage"),
-        ("IMAGE_MAX", "longestImage"),
-        ("SHEET_MAX", "sheetRoom"),
-        ("PROGRAM_MAX", "longestProgram"),
-        ("LISTING_MAX", "longestListing"),
-        ("TURNS_MAX", "turnLimit"),
-        ("OBSERVER_MAX", "highestLabel"),
-        ("LABEL_MAX", "highestLabel"),
-        ("SLOT_MAX", "highestSlot"),
+        ("IMAGE_MIN", "shortest_image"),
+        ("IMAGE_MAX", "longest_image"),
+        ("SHEET_MAX", "sheet_room"),
+        ("PROGRAM_MAX", "longest_program"),
+        ("LISTING_MAX", "longest_listing"),
+        ("TURNS_MAX", "turn_limit"),
+        ("OBSERVER_MAX", "highest_label"),
+        ("LABEL_MAX", "highest_label"),
+        ("SLOT_MAX", "highest_slot"),
         ("HOST", "host"),
     ];
     for (name, definition) in names {
@@ -60,7 +60,7 @@ fn the_headers_limits_are_the_definitions() {
         assert_eq!(defined(&header, name), limit, "{name}");
     }
     // number 10's sentence says that no sender is above the host
-    assert!(limits.lines().any(|line| line == "highestSender = host"));
+    assert!(limits.lines().any(|line| line == "highest_sender = host"));
 }
 
 /// The numbers of the header's enum, in order: name, number, and the sentence in the comment ahead of it.
