@@ -11,7 +11,8 @@ use std::io::{Read, Write};
 // One byte more than the program takes, so that a longer input is seen to be longer.
 const READ_MAX: usize = sheet::INPUT_MAX + 1;
 
-// Prints what is to be printed for all that the source has. It says so of sources and targets whose bytes are known, and a stream's are not.
+// Prints what is to be printed for all that the source has. It says so of sources and targets whose bytes are known, and a stream's are not,
+// where no read or write fails; a read that fails leaves the target as it is.
 fn show<R: Read, W: Write>(source: &mut R, target: &mut W) -> io::Result<()>
     ensures { OnOk result (IfSome (R.remaining source.old) (λ bytes. Appends (W.contents target.old) (W.contents target.new) (printed bytes))) }
 {
