@@ -3,7 +3,8 @@
 // labels, so no observer may have it.
 #![tactic(auto)]
 
-ghost use Rattle.std.specs.Prelude.{◌<◌};
+ghost use Rattle.std.specs.Prelude.{ℕ, ◌<◌, ◌≤◌, ◌≡◌, List, length, OnOk, OnErr};
+ghost use Rattle.std.specs.Io.KnownBytes.{Appends};
 
 use std::io;
 use std::io::Write;
@@ -15,9 +16,11 @@ const READ_MAX: usize = 8192;
 const TOLD: usize = 32;
 
 // Prints slot s: for each label 1 where there is room for one more message, else 0, and then how many were looked at. Both are 0 in
-// an unused slot.
+// an unused slot. Where a write fails, a front of these.
 fn print_slot<W: Write>(target: &mut W, table: &table::Table, s: usize) -> io::Result<()>
     requires { s < 16 }
+    ensures whole { OnOk result ((bytes : List ℕ) × (length bytes ≡ 32) × Appends (W.contents target.old) (W.contents target.new) bytes) }
+    ensures failed { OnErr result ((bytes : List ℕ) × (length bytes ≤ 32) × Appends (W.contents target.old) (W.contents target.new) bytes) }
 {
     let mut told: [u8; TOLD] = [0; TOLD];
     if table::kind(table, s) != 0 {
@@ -28,12 +31,12 @@ fn print_slot<W: Write>(target: &mut W, table: &table::Table, s: usize) -> io::R
             told[2 * label + 1] = (looked.looked % 256) as u8;
         }
     }
-    target.write_all(&told)
+    streams::write_full(target, &told)
 }
 
 fn main(rt: HostRuntime) -> io::Result<()> {
     let mut bytes: [u8; READ_MAX] = [0; READ_MAX];
-    let n = input::read_full(&mut rt.stdin(), &mut bytes)?;
+    let n = streams::read_full(&mut rt.stdin(), &mut bytes)?;
     let image = &bytes[..n];
     if judge::number(image) == 0 {
         let mut table: table::Table = [0; table::WORDS];

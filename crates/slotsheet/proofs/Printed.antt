@@ -1,5 +1,5 @@
 -- What is printed for the bytes that were read is what is printed for all that the source had.
-use Rattle.std.proofs.Common.{◌≡◌, ℕ, ◌<◌, ◌≤◌, List, [], ◌++◌, Option, None, Some, IfSome, Result, Ok, Err, OnOk, refl, sym, ap, ◌∙◌, subst, append-nil, length, length-append, take, arith, leb, leb-true, leb-false}
+use Rattle.std.proofs.Common.{◌≡◌, ℕ, ◌<◌, ◌≤◌, List, [], ◌++◌, Option, None, Some, IfSome, Result, Ok, Err, OnOk, OnErr, refl, sym, ap, ◌∙◌, subst, append-nil, length, length-append, take, arith, leb, leb-true, leb-false}
 use Rattle.std.proofs.lemmas.Bool.{lt-leb}
 use Rattle.std.specs.Io.KnownBytes.{Appends, Consumes, IsAtEnd}
 use Rattle.wire.specs.Output.{overwrite}
@@ -40,3 +40,30 @@ shown (Err e) given left old new bs text out n wrote long h p end = tt
 shown (Ok u) given left old new bs text out n wrote long h p end =
     let same : take n text ≡ printed bs = rw (long, h) (take_overwrite (printed bs) out) in
     appends_all given left old new bs (subst (Appends old new) same wrote) p end
+
+-- ---- where a read or a write fails: a front of that
+
+nothing_more : (old : Option (List ℕ)) → Appends old old []
+nothing_more None = tt
+nothing_more (Some x) = sym (append-nil x)
+
+-- nothing, where the source could not be read
+pub none_shown : {T E : Type 0} (r : Result T E) (given old : Option (List ℕ))
+    → OnErr r (IfSome given (λ xs. (n : ℕ) × Appends old old (take n (printed xs))))
+none_shown (Ok x) given old = tt
+none_shown (Err e) None old = tt
+none_shown (Err e) (Some xs) old = (0, nothing_more old)
+
+appends_front : (given left old new : Option (List ℕ)) (bs : List ℕ) (m : ℕ) → Appends old new (take m (printed bs))
+    → Consumes given left bs → (length bs ≤ input_room → IsAtEnd left) → IfSome given (λ xs. (n : ℕ) × Appends old new (take n (printed xs)))
+appends_front None left old new bs m wrote p end = tt
+appends_front (Some xs) left old new bs m wrote p end = (m, subst (λ t. Appends old new (take m t)) (printed_all (Some xs) left bs p end) wrote)
+
+pub front_shown : {E : Type 0} (r : Result (Unit {0}) E) (given left old new : Option (List ℕ)) (bs text out : List ℕ) (n : ℕ)
+    → OnErr r ((m : ℕ) × Appends old new (take m (take n text))) → n ≡ length (printed bs) → text ≡ overwrite (printed bs) out
+    → Consumes given left bs → (length bs ≤ input_room → IsAtEnd left)
+    → OnErr r (IfSome given (λ xs. (m : ℕ) × Appends old new (take m (printed xs))))
+front_shown (Ok u) given left old new bs text out n wrote long h p end = tt
+front_shown (Err e) given left old new bs text out n wrote long h p end =
+    let same : take n text ≡ printed bs = rw (long, h) (take_overwrite (printed bs) out) in
+    appends_front given left old new bs wrote.0 (subst (λ t. Appends old new (take wrote.0 t)) same wrote.1) p end

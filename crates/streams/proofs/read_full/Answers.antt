@@ -1,6 +1,6 @@
 use Rattle.std.proofs.Common.{rules, ◌+◌, arith}
-use Rattle.input.proofs.Buffer.{consumes_front, none_given, on_err}
-use Rattle.input.proofs.read_full.Goals as goal
+use Rattle.streams.proofs.Buffer.{consumes_front, none_given, on_err}
+use Rattle.streams.proofs.read_full.Goals as goal
 
 pub loop-n-preserved : goal.loop-n-preserved
 loop-n-preserved g c =

@@ -1,1 +1,2 @@
 mod Buffer
+mod Fronts

@@ -1,6 +1,6 @@
 use Rattle.std.proofs.Common.{length, ◌-◌, ◌≤◌, take}
 use Rattle.std.specs.Io.KnownBytes.{Consumes}
-use Rattle.input.proofs.read_full.Given as goal
+use Rattle.streams.proofs.read_full.Given as goal
 
 -- what was read stands at the buffer's front
 abbrev pub invariant-loop-n : goal.invariant-loop-n
