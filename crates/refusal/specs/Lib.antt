@@ -1,0 +1,2 @@
+-- The definitions of the crate `refusal`, a file each.
+pub mod Refusal
