@@ -10,7 +10,8 @@ use Rattle.instruction.specs.declared.Instruction.TheVariants.{End, Set, Copy, A
 use Rattle.instruction.specs.Program.{count}
 use Rattle.instruction.proofs.Table.{Sound, decode_sound}
 use Rattle.machine.specs.Limits.{highest_label}
-use Rattle.machine.specs.State.{Message, Task, Slot, unused, used, State, slot_at, is_live, has_live_task, with_label, with_spare, with_pc, register, with_register, next, without_message}
+use Rattle.machine.specs.declared.Message.{Message}
+use Rattle.machine.specs.State.{Task, Slot, unused, used, State, slot_at, is_live, has_live_task, with_label, with_spare, with_pc, register, with_register, next, without_message}
 use Rattle.machine.specs.declared.Found.{Found}
 use Rattle.machine.specs.Effect.{Action, no_action, deliver, spawn, Outcome, without_action, stopped, receives, child_of, find, found, execute}
 use Rattle.machine.specs.Turn.{has_room, enqueue, perform, applied}

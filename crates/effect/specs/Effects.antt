@@ -5,7 +5,8 @@ use Rattle.instruction.specs.declared.Instruction.{Instruction}
 use Rattle.instruction.specs.declared.Decoded.TheVariants.{Legal}
 use Rattle.instruction.specs.Table.{decode}
 use Rattle.machine.specs.Limits.{highest_label}
-use Rattle.machine.specs.State.{Message, Slot, unused, used, is_live}
+use Rattle.machine.specs.declared.Message.{Message}
+use Rattle.machine.specs.State.{Slot, unused, used, is_live}
 use Rattle.machine.specs.Effect.{execute}
 use Rattle.machine.specs.Turn.{has_room, applied}
 use Rattle.table.specs.Table.{mailbox_room}

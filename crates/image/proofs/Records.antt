@@ -18,7 +18,8 @@ use Rattle.wire.proofs.Items.{every_decode, items_back, items_forth, length_item
 use Rattle.wire.proofs.Numbers.{length_encode}
 use Rattle.wire.proofs.Fields.{Holds, Fit, length_fields, fields_back, fields_forth, fields_fit, fields_bytes, numbers_fit, fit_numbers}
 use Rattle.machine.specs.Version.{has_clearances}
-use Rattle.machine.specs.State.{Message, Task, Slot, unused, used}
+use Rattle.machine.specs.declared.Message.{Message}
+use Rattle.machine.specs.State.{Task, Slot, unused, used}
 use Rattle.machine.specs.Valid.{fields_in_range, mail_in_range, ValidTask, ValidSlot}
 use Rattle.machine.proofs.Rules.{MessageFacts, six_kinds, task_facts}
 use Rattle.image.specs.Format.{task_fields, message_fields, task_size, message_size}

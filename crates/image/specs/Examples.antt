@@ -2,7 +2,8 @@
 -- and what version 2 has; and the order over a call.
 use Rattle.std.specs.Prelude.{ℕ, zero, suc, ◌≡◌, List, [], ◌∷◌, ◌++◌, length, set, take, replicate}
 use Rattle.machine.specs.Limits.{shortest_image, longest_image}
-use Rattle.machine.specs.State.{Message, Task, Slot, unused, used, with_kind, with_mailbox}
+use Rattle.machine.specs.declared.Message.{Message}
+use Rattle.machine.specs.State.{Task, Slot, unused, used, with_kind, with_mailbox}
 use Rattle.image.specs.Image.{state_of, slot_bytes, image_bytes}
 use Rattle.image.specs.Refusal.{image_number, first_met}
 

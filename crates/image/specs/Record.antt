@@ -2,7 +2,8 @@
 use Rattle.std.specs.Prelude.{ℕ, ◌/◌, List, [], ◌∷◌, ◌++◌, length, get_or, drop}
 use Rattle.wire.specs.Items.{decode_items, encode_items}
 use Rattle.wire.specs.Fields.{decode_fields, encode_fields}
-use Rattle.machine.specs.State.{Message, Task, Slot, unused, used}
+use Rattle.machine.specs.declared.Message.{Message}
+use Rattle.machine.specs.State.{Task, Slot, unused, used}
 use Rattle.image.specs.Format.{task_fields, message_fields, task_size, message_size}
 
 -- ---- the numbers in the fields of a message and of a task, in the format's order

@@ -15,7 +15,7 @@ use Rattle.wire.specs.Items.{decode_items}
 use Rattle.wire.proofs.Lists.{and_both, each_intro, each_fails, keep_append, all_append}
 use Rattle.wire.proofs.Items.{decode_at, decode_more}
 use Rattle.machine.specs.Limits.{highest_sender}
-use Rattle.machine.specs.State.{Message}
+use Rattle.machine.specs.declared.Message.{Message}
 use Rattle.machine.specs.Turn.{of_label}
 use Rattle.machine.specs.Valid.{message_in_range, mail_in_range}
 use Rattle.image.specs.Record.{message_of}

@@ -19,7 +19,8 @@ use Rattle.machine.proofs.Rules.{MessageFacts, MailboxFacts, task_facts}
 use Rattle.machine.proofs.Mailbox.{mailbox_64}
 use Rattle.wire.specs.Items.{decode_items}
 use Rattle.wire.proofs.Items.{length_decode, get_d_decode, decode_more}
-use Rattle.machine.specs.State.{Message, Task, Slot, unused, used, slot_at, with_register, with_registers, with_mailbox, no_message}
+use Rattle.machine.specs.declared.Message.{Message}
+use Rattle.machine.specs.State.{Task, Slot, unused, used, slot_at, with_register, with_registers, with_mailbox, no_message}
 use Rattle.image.specs.Format.{task_size}
 use Rattle.image.specs.Record.{message_of, mailbox_of, task_of, slot_of, task_bytes}
 use Rattle.image.specs.Image.{version_of, record_of, skip, slots_of, slots_part, program_of, state_of}

@@ -17,7 +17,8 @@ use Rattle.instruction.specs.declared.Decoded.TheVariants.{Legal, Illegal}
 use Rattle.instruction.specs.Program.{count, instruction_at}
 use Rattle.instruction.proofs.Table.{Sound}
 use Rattle.instruction.proofs.Program.{at_sound}
-use Rattle.machine.specs.State.{Message, Task, with_pc, no_message, register}
+use Rattle.machine.specs.declared.Message.{Message}
+use Rattle.machine.specs.State.{Task, with_pc, no_message, register}
 use Rattle.machine.specs.Effect.{Action, no_action, deliver, spawn, Outcome, without_action, receives, receivable, found, taken, execute, carried_out, outcome}
 use Rattle.machine.specs.View.{view_task}
 

@@ -8,7 +8,8 @@ use native.Mathlib.Omega.{arith}
 use lib.ListN.{set}
 use Rattle.wire.proofs.Lists.{split, get_d_set_at}
 use Rattle.label.proofs.Order.{Order}
-use Rattle.machine.specs.State.{Message, Task, Slot, unused, used, State, slot_at, is_live, is_unused}
+use Rattle.machine.specs.declared.Message.{Message}
+use Rattle.machine.specs.State.{Task, Slot, unused, used, State, slot_at, is_live, is_unused}
 use Rattle.machine.specs.Effect.{Action, no_action, deliver, spawn, Outcome, outcome}
 use Rattle.machine.specs.Turn.{has_room, enqueue, perform, applied, step, turn_by, turns_by, busy_by}
 use Rattle.machine.specs.Post.{host_message, post}

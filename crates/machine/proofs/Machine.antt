@@ -6,7 +6,8 @@ use lib.Bits.{bit_and}
 use Rattle.wire.proofs.Lists.{every_weaken}
 use Rattle.label.specs.Label.{flows, join}
 use Rattle.label.proofs.Order.{DownClosed, label_order, subset_15, subset_common}
-use Rattle.machine.specs.State.{Message, Slot, unused, used, State, slot_at, has_live_task}
+use Rattle.machine.specs.declared.Message.{Message}
+use Rattle.machine.specs.State.{Slot, unused, used, State, slot_at, has_live_task}
 use Rattle.machine.specs.Turn.{current, turn_by}
 use Rattle.machine.specs.Post.{post}
 use Rattle.machine.specs.View.{view_by}

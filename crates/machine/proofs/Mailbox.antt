@@ -10,7 +10,7 @@ use lib.Dec.{eqb}
 use lib.ListN.{length, length-append}
 use Rattle.wire.specs.Lists.{Every, keep, without}
 use Rattle.wire.proofs.Lists.{split, every_append, every_keep, every_without, keep_append, keep_keep_le, keep_without_le}
-use Rattle.machine.specs.State.{Message}
+use Rattle.machine.specs.declared.Message.{Message}
 use Rattle.machine.specs.Turn.{of_label, has_room}
 use Rattle.machine.proofs.Rules.{MessageFacts, MailboxFacts}
 

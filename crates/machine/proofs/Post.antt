@@ -10,7 +10,8 @@ use lib.Dec.{ltb}
 use lib.ListN.{length, set, length-append, length-set, get_or-map, get_or-eq_default}
 use lib.Seq.{map-set_same, get_or-set_same}
 use Rattle.wire.proofs.Lists.{split, map_set}
-use Rattle.machine.specs.State.{Message, Slot, unused, used, State, slot_at, is_live, has_live_task}
+use Rattle.machine.specs.declared.Message.{Message}
+use Rattle.machine.specs.State.{Slot, unused, used, State, slot_at, is_live, has_live_task}
 use Rattle.machine.specs.Effect.{deliver}
 use Rattle.machine.specs.Turn.{has_room, enqueue, perform}
 use Rattle.machine.specs.Post.{host_message, post, mail_of, has_more}

@@ -13,7 +13,8 @@ use Rattle.wire.proofs.Lists.{split, and_both, and_intro, each_intro, each_at, e
 use Rattle.label.specs.Label.{is_subset}
 use Rattle.machine.specs.Limits.{highest_sender, highest_kind}
 use Rattle.machine.specs.Version.{has_clearances}
-use Rattle.machine.specs.State.{Message, Task, Slot, unused, used, slot_at, is_unused, spare_of, register}
+use Rattle.machine.specs.declared.Message.{Message}
+use Rattle.machine.specs.State.{Task, Slot, unused, used, slot_at, is_unused, spare_of, register}
 use Rattle.machine.specs.Turn.{of_label}
 use Rattle.machine.specs.Valid.{is_program_length, message_in_range, mail_in_range, spares_unused, clearance_fits, ValidTask, ValidSlot}
 

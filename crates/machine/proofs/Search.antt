@@ -6,7 +6,8 @@ use mathlib.Core.Bool.{Bool}
 use mathlib.Core.List.{List}
 use lib.ListN.{length}
 use Rattle.wire.proofs.Lists.{keep_le, first_none, first_some}
-use Rattle.machine.specs.State.{Message, Task}
+use Rattle.machine.specs.declared.Message.{Message}
+use Rattle.machine.specs.State.{Task}
 use Rattle.machine.specs.Effect.{receivable, find}
 use Rattle.machine.specs.View.{view_task}
 

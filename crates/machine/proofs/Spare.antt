@@ -11,7 +11,8 @@ use lib.Dec.{eqb}
 use lib.ListN.{length, set, length-set, length-map, get_or-map, get_or-eq_default}
 use lib.Seq.{get_or-set_same, get_or-set_other}
 use Rattle.wire.proofs.Lists.{split, get_d_set_at}
-use Rattle.machine.specs.State.{Message, Task, Slot, unused, used, slot_at, spare_of}
+use Rattle.machine.specs.declared.Message.{Message}
+use Rattle.machine.specs.State.{Task, Slot, unused, used, slot_at, spare_of}
 use Rattle.machine.specs.Effect.{Action, no_action, deliver, spawn, Outcome}
 use Rattle.machine.specs.Turn.{has_room, enqueue, perform, applied}
 use Rattle.machine.specs.View.{view_slot}

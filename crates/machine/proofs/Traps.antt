@@ -8,7 +8,8 @@ use Rattle.wire.specs.Lists as Lists
 use Rattle.label.specs.Label as Label
 use Rattle.instruction.specs.Table as Table
 use Rattle.instruction.specs.Program as Program
-use Rattle.machine.specs.State.{Message, Task, unused, used, State, with_mailbox}
+use Rattle.machine.specs.declared.Message.{Message}
+use Rattle.machine.specs.State.{Task, unused, used, State, with_mailbox}
 use Rattle.machine.specs.Effect as Effect
 use Rattle.machine.specs.Turn as Turn
 use Rattle.machine.specs.Post as Post

@@ -23,7 +23,8 @@ use Rattle.instruction.proofs.Table.{Sound}
 use Rattle.instruction.proofs.Program.{at_below, at_sound, at_bytes, legal_at}
 use Rattle.machine.specs.Version.{has_clearances}
 use Rattle.machine.specs.Limits.{highest_kind}
-use Rattle.machine.specs.State.{Message, Task, Slot, unused, used, State, slot_at, spare_of, with_kind, with_label, with_spare, with_pc, with_mailbox, no_message, message, register, with_register, next}
+use Rattle.machine.specs.declared.Message.{Message}
+use Rattle.machine.specs.State.{Task, Slot, unused, used, State, slot_at, spare_of, with_kind, with_label, with_spare, with_pc, with_mailbox, no_message, message, register, with_register, next}
 use Rattle.machine.specs.Effect.{Action, no_action, deliver, spawn, Outcome, without_action, receives, child_of, child_slot, found, taken, execute, carried_out, outcome}
 use Rattle.machine.specs.Turn.{has_room, enqueue, perform, applied, successor, step, turn_by, turns_by}
 use Rattle.machine.specs.Post.{host_message, post}

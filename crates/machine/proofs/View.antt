@@ -8,7 +8,8 @@ use lib.Dec.{eqb}
 use lib.ListN.{get_or-map}
 use Rattle.wire.specs.Lists.{Every, keep}
 use Rattle.wire.proofs.Lists.{split, map_set, map_absorb, keep_append, keep_keep, keep_and, keep_all}
-use Rattle.machine.specs.State.{Message, Task, Slot, unused, used, State, slot_at}
+use Rattle.machine.specs.declared.Message.{Message}
+use Rattle.machine.specs.State.{Task, Slot, unused, used, State, slot_at}
 use Rattle.machine.specs.Effect.{Action, no_action, deliver, spawn, Outcome}
 use Rattle.machine.specs.Turn.{has_room, enqueue, perform, applied}
 use Rattle.machine.specs.View.{view_task, view_slot, view_by}

@@ -8,7 +8,8 @@ use Rattle.instruction.specs.declared.Decoded.{Decoded}
 use Rattle.instruction.specs.declared.Decoded.TheVariants.{Legal, Illegal}
 use Rattle.instruction.specs.Program.{count, instruction_at}
 use Rattle.machine.specs.declared.Found.{Found}
-use Rattle.machine.specs.State.{Message, Task, with_kind, with_label, with_spare, with_pc, message, without_message, register, with_register, next}
+use Rattle.machine.specs.declared.Message.{Message}
+use Rattle.machine.specs.State.{Task, with_kind, with_label, with_spare, with_pc, message, without_message, register, with_register, next}
 
 -- what a task does to the slots: nothing, a message to the slot of that number, or a new task in it
 pub data Action : Type 0 where

@@ -1,7 +1,8 @@
 -- Posts (02, U1): between turns the host puts a message into a slot's mailbox.
 use Rattle.std.specs.Prelude.{ℕ, Bool, List, [], ltb, length}
 use Rattle.machine.specs.Limits.{host}
-use Rattle.machine.specs.State.{Message, Slot, unused, used, State, slot_at, with_slots}
+use Rattle.machine.specs.declared.Message.{Message}
+use Rattle.machine.specs.State.{Slot, unused, used, State, slot_at, with_slots}
 use Rattle.machine.specs.Effect.{deliver}
 use Rattle.machine.specs.Turn.{perform}
 

@@ -1,7 +1,7 @@
 -- Tasks taken apart: messages, tasks, slots, and the state of them all.
 use Rattle.std.specs.Prelude.{ℕ, ◌+◌, Bool, true, false, List, eqb, get_or, set}
 use Rattle.wire.specs.Lists.{without}
-pub use Rattle.machine.specs.declared.Message.{Message}
+use Rattle.machine.specs.declared.Message.{Message}
 use Rattle.machine.specs.declared.Kind.{Kind}
 use Rattle.machine.specs.declared.Kind.TheVariants.{Live, Done, PastProgram, StoppedByLabel, WithoutSpare, StoppedByClearance}
 

@@ -2,7 +2,8 @@
 use Rattle.std.specs.Prelude.{ℕ, zero, suc, ◌+◌, ◌%◌, Bool, cond, ◌&&◌, List, [], ◌∷◌, ◌++◌, eqb, ltb, length, set}
 use Rattle.wire.specs.Lists.{keep}
 use Rattle.machine.specs.Limits.{limit_per_label}
-use Rattle.machine.specs.State.{Message, Slot, unused, used, State, slot_at, is_live, has_live_task, with_mailbox}
+use Rattle.machine.specs.declared.Message.{Message}
+use Rattle.machine.specs.State.{Slot, unused, used, State, slot_at, is_live, has_live_task, with_mailbox}
 use Rattle.machine.specs.Effect.{Action, no_action, deliver, spawn, Outcome, outcome}
 
 -- the messages of label l

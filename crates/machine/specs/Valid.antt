@@ -6,7 +6,8 @@ use Rattle.label.specs.Label.{is_subset}
 use Rattle.instruction.specs.Program.{count, all_legal}
 use Rattle.machine.specs.Limits.{highest_label, highest_slot, highest_sender, highest_kind, limit_per_label, longest_program}
 use Rattle.machine.specs.Version.{is_version, has_clearances}
-use Rattle.machine.specs.State.{Message, Task, Slot, unused, used, State, slot_at, is_unused, spare_of}
+use Rattle.machine.specs.declared.Message.{Message}
+use Rattle.machine.specs.State.{Task, Slot, unused, used, State, slot_at, is_unused, spare_of}
 use Rattle.machine.specs.Turn.{of_label}
 
 -- 5 program length, in bytes: a multiple of 4 from 4 to 1,024

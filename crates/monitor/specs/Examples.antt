@@ -2,7 +2,8 @@
 -- one claim about the definitions.
 use Rattle.std.specs.Prelude.{ℕ, ◌+◌, ◌≡◌, true, false, List, [], ◌∷◌, ◌++◌, length, set, replicate}
 use Rattle.label.specs.Label.{flows}
-use Rattle.machine.specs.State.{Message, Task, Slot, unused, used, State, with_kind, with_label, with_spare, with_register, with_mailbox, next}
+use Rattle.machine.specs.declared.Message.{Message}
+use Rattle.machine.specs.State.{Task, Slot, unused, used, State, with_kind, with_label, with_spare, with_register, with_mailbox, next}
 use Rattle.machine.specs.Post.{post, delivered}
 use Rattle.machine.specs.Machine.{turns, busy, view}
 use Rattle.image.specs.Format.{task_size}

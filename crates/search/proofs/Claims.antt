@@ -9,7 +9,7 @@ use borrow.Author.Tests.{lt-ltb, le-ltb, ltb-false, eq-eqb, eqb-true}
 use lib.Dec.{eqb, ltb, leb-suc-suc}
 use lib.ListN.{length, take}
 use Rattle.wire.proofs.Lists.{split}
-use Rattle.machine.specs.State.{Message}
+use Rattle.machine.specs.declared.Message.{Message}
 use Rattle.machine.specs.Turn.{of_label}
 use Rattle.search.specs.Look.{one_more, look_for}
 use Rattle.search.proofs.Counting.{look_met}

@@ -14,7 +14,7 @@ use Rattle.wire.proofs.Lists.{split}
 use Rattle.label.proofs.Bits.{two}
 use Rattle.planes.specs.Planes.{set_of, without_lowest}
 use Rattle.planes.proofs.Sets.{set_odd, set_half, set_below, even_half, odd_half, lowest_gone}
-use Rattle.machine.specs.State.{Message}
+use Rattle.machine.specs.declared.Message.{Message}
 use Rattle.search.specs.declared.Looked.{Looked}
 use Rattle.search.specs.Look.{one_more, look_for}
 

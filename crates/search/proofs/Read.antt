@@ -14,7 +14,7 @@ use Rattle.wire.proofs.Tabulate.{length_tabulate, take_tabulate}
 use Rattle.label.specs.Label.{flows}
 use Rattle.planes.specs.Planes.{Bits, set_of}
 use Rattle.planes.proofs.Sets.{set_of_bits, first_set, first_take}
-use Rattle.machine.specs.State.{Message}
+use Rattle.machine.specs.declared.Message.{Message}
 use Rattle.machine.specs.Effect.{find}
 use Rattle.machine.proofs.Search.{find_most}
 use Rattle.table.specs.Table.{mailbox_room, window, message_in, slots_in}

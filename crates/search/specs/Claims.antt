@@ -1,6 +1,6 @@
 -- What 02 asks of the count (U3), as claims about `look`, which is the promise of the code; proofs/Claims.antt inhabits each.
 use Rattle.std.specs.Prelude.{ℕ, suc, ◌≡◌, true, false, List, ◌∷◌, ◌++◌, length, take}
-use Rattle.machine.specs.State.{Message}
+use Rattle.machine.specs.declared.Message.{Message}
 use Rattle.machine.specs.Turn.{of_label, has_room}
 use Rattle.search.specs.Look.{look}
 

@@ -1,7 +1,7 @@
 -- The count of one label's messages, which decides whether a message is dropped, and how many messages it looks at (02, U3).
 use Rattle.std.specs.Prelude.{ℕ, zero, suc, false, cond, List, [], ◌∷◌, eqb, ltb}
 use Rattle.machine.specs.Limits.{limit_per_label}
-use Rattle.machine.specs.State.{Message}
+use Rattle.machine.specs.declared.Message.{Message}
 use Rattle.search.specs.declared.Looked.{Looked}
 
 -- one message more was looked at

@@ -13,7 +13,8 @@ use Rattle.wire.specs.Items.{encode_items}
 use Rattle.wire.specs.Output.{overwrite}
 use Rattle.wire.proofs.Items.{items_map, items_keep, length_items}
 use Rattle.machine.specs.Version.{has_clearances}
-use Rattle.machine.specs.State.{Message, Task, Slot, unused, used, slot_at}
+use Rattle.machine.specs.declared.Message.{Message}
+use Rattle.machine.specs.State.{Task, Slot, unused, used, slot_at}
 use Rattle.machine.specs.View.{view_task, view_slot, view_by}
 use Rattle.wire.specs.Fields.{encode_fields}
 use Rattle.wire.proofs.Lists.{split}

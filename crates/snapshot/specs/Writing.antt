@@ -1,7 +1,8 @@
 -- The bytes that are written of the table for an observer, and of each part of it.
 use Rattle.std.specs.Prelude.{ℕ, Bool, false, cond, List, []}
 use Rattle.label.specs.Label.{flows}
-use Rattle.machine.specs.State.{Message, Task, Slot, unused, used}
+use Rattle.machine.specs.declared.Message.{Message}
+use Rattle.machine.specs.State.{Task, Slot, unused, used}
 use Rattle.machine.specs.View.{view_task, view_slot}
 use Rattle.machine.specs.Machine.{view}
 use Rattle.image.specs.Record.{message_bytes}

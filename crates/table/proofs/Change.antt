@@ -7,7 +7,8 @@ use lib.ListN.{length, get_or, set}
 use lib.Seq.{set-get_or}
 use Rattle.wire.proofs.Lists.{get_d_set_at}
 use Rattle.wire.proofs.Tabulate.{length_tabulate, get_d_tabulate}
-use Rattle.machine.specs.State.{Message, Task, Slot, unused, used, slot_at, no_message}
+use Rattle.machine.specs.declared.Message.{Message}
+use Rattle.machine.specs.State.{Task, Slot, unused, used, slot_at, no_message}
 use Rattle.table.specs.Table.{window, message_in, task_in, held, slots_in}
 use Rattle.table.specs.Change.{task_or, task_at, Used, change_slot, change, opened}
 

@@ -11,7 +11,8 @@ use Rattle.wire.proofs.Tabulate.{get_d_tabulate, tabulate_same, tabulate_set, ta
 use Rattle.label.specs.Label.{bit}
 use Rattle.planes.specs.Planes.{label_from}
 use Rattle.planes.proofs.Labels.{label_same}
-use Rattle.machine.specs.State.{Message, with_mailbox, no_message, without_message}
+use Rattle.machine.specs.declared.Message.{Message}
+use Rattle.machine.specs.State.{with_mailbox, no_message, without_message}
 use Rattle.table.specs.Table.{window, plane_in, message_in, task_in, slots_in}
 use Rattle.table.specs.Change.{task_at, Used, change, with_message, with_mail, opened}
 use Rattle.table.specs.Words.{SlotChanged, SlotStored, Planed, Mailed, With, Without}

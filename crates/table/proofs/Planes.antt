@@ -9,7 +9,7 @@ use borrow.Author.Tests.{eq-eqb, ne_eqb}
 use lib.ListN.{length, get_or, drop, set, length-drop}
 use lib.Seq.{drop-set-add, drop-set-lt, get_or-set_same, get_or-set_other}
 use Rattle.planes.proofs.Labels.{label_is}
-use Rattle.machine.specs.State.{Message}
+use Rattle.machine.specs.declared.Message.{Message}
 use Rattle.table.specs.Table.{window, plane_in, ring_in, message_in}
 use Rattle.table.specs.Words.{SlotChanged, SlotStored, Planed, Mailed, WithBit, WithoutBit, With, Closed, Without}
 use Rattle.table.proofs.Window.{window_length, changed_none, changed_then}

@@ -1,7 +1,8 @@
 -- What the table's functions read of the slots and change in them. An unused slot holds no task, and there is none above 15.
 use Rattle.std.specs.Prelude.{ℕ, ◌≡◌, List, [], ◌∷◌, ◌++◌, set, replicate}
 use Rattle.wire.specs.Lists.{tabulate}
-use Rattle.machine.specs.State.{Message, Task, Slot, unused, used, slot_at, with_kind, with_mailbox, message}
+use Rattle.machine.specs.declared.Message.{Message}
+use Rattle.machine.specs.State.{Task, Slot, unused, used, slot_at, with_kind, with_mailbox, message}
 use Rattle.table.specs.Table.{message_in, held}
 
 -- ---- reading

@@ -2,7 +2,8 @@
 use Rattle.std.specs.Prelude.{ℕ, ◌+◌, ◌*◌, ◌/◌, ◌%◌, min, cond, List, eqb, get_or, drop}
 use Rattle.wire.specs.Lists.{tabulate}
 use Rattle.planes.specs.Planes.{label_from}
-use Rattle.machine.specs.State.{Message, Task, Slot, unused, used, State}
+use Rattle.machine.specs.declared.Message.{Message}
+use Rattle.machine.specs.State.{Task, Slot, unused, used, State}
 
 -- ---- the layout of a slot's words: one for each field, a plane for each bit of the messages' labels, and a ring of messages
 

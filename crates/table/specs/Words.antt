@@ -2,7 +2,7 @@
 use Rattle.std.specs.Prelude.{ℕ, suc, ◌-◌, ◌<◌, ◌≤◌, ◌≡◌, ◌≢◌, cond, List, ◌++◌, eqb, ltb, get_or, drop, replicate}
 use Rattle.label.specs.Label.{bit}
 use Rattle.planes.specs.Planes.{Bits, behind_gap}
-use Rattle.machine.specs.State.{Message}
+use Rattle.machine.specs.declared.Message.{Message}
 use Rattle.table.specs.Table.{start_word, planes_word, ring_word, mailbox_room, window, plane_in, ring_in, message_in}
 
 -- u is the table t with words in slot s that R allows

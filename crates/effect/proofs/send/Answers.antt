@@ -2,7 +2,8 @@
 use Rattle.std.proofs.Common.{◌≡◌, ℕ, List, sym, refl, ◌∙◌, true}
 use Rattle.label.specs.Label.{flows}
 use Rattle.instruction.specs.declared.Instruction.TheVariants.{Send}
-use Rattle.machine.specs.State.{Message, Slot, next, register}
+use Rattle.machine.specs.declared.Message.{Message}
+use Rattle.machine.specs.State.{Slot, next, register}
 use Rattle.machine.specs.Effect.{deliver}
 use Rattle.machine.specs.Turn.{perform}
 use Rattle.table.specs.Table.{slots_in}

@@ -12,7 +12,7 @@ use Rattle.wire.proofs.Lists.{length_nil}
 use Rattle.label.specs.Label.{flows}
 use Rattle.planes.specs.Planes.{Bits, set_of}
 use Rattle.planes.proofs.Sets.{ones_set}
-use Rattle.machine.specs.State.{Message}
+use Rattle.machine.specs.declared.Message.{Message}
 use Rattle.machine.specs.Effect.{receivable, find}
 use Rattle.table.specs.Table.{window, message_in, slots_in}
 use Rattle.table.specs.Change.{task_at, Used}

@@ -6,7 +6,7 @@ use lib.ListN.{length, length-set}
 use lib.Seq.{sets-eq}
 use Rattle.wire.specs.Numbers.{encode_number}
 use Rattle.wire.proofs.Output.{lent_fits, length_overwrite}
-use Rattle.machine.specs.State.{Message}
+use Rattle.machine.specs.declared.Message.{Message}
 use Rattle.image.specs.Record.{message_bytes}
 use Rattle.image.proofs.Offsets.{message_bytes_lem}
 use Rattle.image.proofs.Records.{length_message}

@@ -5,7 +5,7 @@ use native.Mathlib.Omega.{arith}
 use lib.ListN.{length}
 use Rattle.wire.specs.Output.{overwrite}
 use Rattle.wire.proofs.Output.{length_overwrite}
-use Rattle.machine.specs.State.{Message}
+use Rattle.machine.specs.declared.Message.{Message}
 use Rattle.image.specs.Record.{message_bytes}
 use Rattle.image.proofs.Records.{length_message}
 use Rattle.table.specs.Table.{slots_in}

@@ -1,6 +1,6 @@
 -- `table::write_message` meets its contract: the message's word in the ring, and its label in the planes.
 use native.Mathlib.Omega.{arith}
-use Rattle.machine.specs.State.{Message}
+use Rattle.machine.specs.declared.Message.{Message}
 use Rattle.table.specs.Table.{window}
 use Rattle.table.specs.Words.{With}
 use Rattle.table.proofs.Window.{changed_then}
