@@ -1,4 +1,4 @@
-// The number that refuses an image, and what is read of an accepted one alone: each slot's record as the part that holds it.
+// Why an image is refused, and what is read of an accepted one alone: each slot's record as the part that holds it.
 #![tactic(auto)]
 
 ghost use Rattle.std.specs.Prelude.{◌<◌, max, ◌≡◌};
@@ -8,76 +8,74 @@ ghost use Rattle.machine.specs.Limits.{highest_kind};
 ghost use Rattle.machine.specs.Valid.{mail_in_range, fields_in_range, spares_unused};
 ghost use Rattle.image.specs.Record.{task_of, slot_of};
 ghost use Rattle.image.specs.Image.{slots_of};
-ghost use Rattle.image.specs.Refusal.{◌then◌, unless, version_number, instructions_number, program_number, turn_slot_number};
+ghost use Rattle.refusal.specs.Refusal.{number};
+ghost use Rattle.image.specs.Refusal.{version_number, instructions_number, program_number, turn_slot_number};
 ghost use Rattle.image.specs.Refusal.{is_record_length, length_number, record_number, slot_number, slots_number, tail_number, estate_number, image_number};
 ghost use Rattle.image.specs.Inner.{from_slot};
 ghost use Rattle.image.specs.Part.{record_part, record_extent};
 
-// ---- the numbers, front to back: 0 where nothing is wrong
+use machine::SlotNumber;
+use refusal::Refusal;
 
-// The number x where the test fails.
-fn unless(test: bool, x: u8) -> u8
-    ensures { result ≡ unless test x }
-{
-    if test { 0 } else { x }
-}
+// ---- what is wrong, front to back
 
-fn version_number(image: &[u8]) -> u8
-    ensures { result ≡ version_number image.now }
+#[tactic(auto, using(std::proofs::lemmas::Bool::Decides::nat_tests), unfolding(image::specs::Refusal::version_number))]
+fn check_version(image: &[u8]) -> Result<(), Refusal>
+    ensures { number result ≡ version_number image.now }
 {
     if image.len() < 1 {
-        return 3;
+        return Err(Refusal::Short);
     }
     let version = image::version(image);
-    unless((1 <= version) & (version <= 2), 4)
+    if (1 <= version) & (version <= 2) {
+        Ok(())
+    } else {
+        Err(Refusal::Version)
+    }
 }
 
 // The instructions of a program's bytes.
-pub fn instructions_number(program: &[u8]) -> u8
-    ensures { result ≡ instructions_number (count program.now) program.now }
+#[tactic(auto, using(image::proofs::Refusal::instructions_number_lem))]
+pub fn check_instructions(program: &[u8]) -> Result<(), Refusal>
+    ensures { number result ≡ instructions_number (count program.now) program.now }
 {
-    unless(instruction::all_legal(program), 6)
+    if instruction::all_legal(program) {
+        Ok(())
+    } else {
+        Err(Refusal::Instruction)
+    }
 }
 
-fn program_number(image: &[u8]) -> u8
-    ensures { result ≡ program_number image.now }
+#[tactic(auto, using(std::proofs::lemmas::Bool::Decides::nat_tests), unfolding(image::specs::Refusal::program_number))]
+fn check_program(image: &[u8]) -> Result<(), Refusal>
+    ensures { number result ≡ program_number image.now }
 {
     if image.len() < image::PROGRAM_AT {
-        return 3;
+        return Err(Refusal::Short);
     }
     let l = image::program_length(image);
     if image::is_program_length(l) {
         if image.len() < image::PROGRAM_AT + l {
-            return 3;
+            return Err(Refusal::Short);
         }
-        instructions_number(image::program(image))
+        check_instructions(image::program(image))
     } else {
-        5
+        Err(Refusal::ProgramLength)
     }
 }
 
-fn turn_slot_number(image: &[u8]) -> u8
-    ensures { result ≡ turn_slot_number image.now }
+#[tactic(auto, using(std::proofs::lemmas::Bool::Decides::nat_tests), unfolding(image::specs::Refusal::turn_slot_number))]
+fn check_turn_slot(image: &[u8]) -> Result<(), Refusal>
+    ensures { number result ≡ turn_slot_number image.now }
 {
     if image.len() < image::PROGRAM_AT + image::program_length(image) + 1 {
-        return 3;
+        return Err(Refusal::Short);
     }
-    unless(image::turn_slot(image) <= 15, 7)
-}
-
-// What is wrong ahead of the slots.
-fn head_number(image: &[u8]) -> u8
-    ensures { result ≡ (version_number image.now then program_number image.now then turn_slot_number image.now) }
-{
-    let version = version_number(image);
-    if version != 0 {
-        return version;
+    if image::turn_slot(image) <= 15 {
+        Ok(())
+    } else {
+        Err(Refusal::TurnSlot)
     }
-    let program = program_number(image);
-    if program != 0 {
-        return program;
-    }
-    turn_slot_number(image)
 }
 
 // 0, or that of a task and k messages, k at most 64: 37 + 6 × k in version 1, 38 + 6 × k in version 2.
@@ -101,9 +99,8 @@ fn highest_kind(version: u8) -> u8
 
 // Whether the fields ahead of the registers are in range and the label within the clearance, in a slot of an image of this version
 // with n instructions.
-fn fields_in_range(version: u8, task: &[u8], slot: usize, n: usize) -> bool
-    requires { slot < 16 }
-    ensures { result ≡ fields_in_range version slot n (task_of version task.now) }
+fn fields_in_range(version: u8, task: &[u8], slot: SlotNumber, n: usize) -> bool
+    ensures { result ≡ fields_in_range version slot.number n (task_of version task.now) }
 {
     let width = image::clearance_width(version);
     let kind = wire::byte_at(task, image::KIND_AT);
@@ -117,7 +114,7 @@ fn fields_in_range(version: u8, task: &[u8], slot: usize, n: usize) -> bool
         & (clearance <= 15)
         & label::is_subset(label, clearance)
         & (pc <= n)
-        & (slot + spare <= 15)
+        & (slot.number + spare <= 15)
 }
 
 // Whether all messages are in range and no label has more than four.
@@ -146,71 +143,72 @@ fn mail_in_range(version: u8, task: &[u8]) -> bool
     true
 }
 
-// What is wrong with a task, which has no bytes in an unused slot: 9 task field, 10 mail.
-fn record_number(version: u8, task: &[u8], slot: usize, n: usize) -> u8
-    requires { slot < 16 }
-    ensures { result ≡ record_number version slot n (slot_of version task.now) }
+// A task, which has no bytes in an unused slot: its fields, then its mail.
+fn check_record(version: u8, task: &[u8], slot: SlotNumber, n: usize) -> Result<(), Refusal>
+    ensures { number result ≡ record_number version slot.number n (slot_of version task.now) }
 {
     if task.len() == 0 {
-        return 0;
+        return Ok(());
     }
     if fields_in_range(version, task, slot, n) {
-        unless(mail_in_range(version, task), 10)
+        if mail_in_range(version, task) {
+            Ok(())
+        } else {
+            Err(Refusal::Mail)
+        }
     } else {
-        9
+        Err(Refusal::TaskField)
     }
 }
 
-// What is wrong with the length of the slot at the front of b: 3 where it is cut, 8, 3 where its record is cut.
-fn length_number(version: u8, b: &[u8]) -> u8
-    ensures { result ≡ length_number version b.now }
+// The length of the slot at the front of b: that it is there, that it is one, and that its record is there.
+#[tactic(auto, using(std::proofs::lemmas::Bool::Decides::nat_tests), unfolding(image::specs::Refusal::length_number))]
+fn check_length(version: u8, b: &[u8]) -> Result<(), Refusal>
+    ensures { number result ≡ length_number version b.now }
 {
     if b.len() < 2 {
-        return 3;
+        return Err(Refusal::Short);
     }
     let l = image::record_length(b);
     let admitted = is_record_length(version, l);
     let whole = 2 + l <= b.len();
     if !admitted {
-        return 8;
+        return Err(Refusal::RecordLength);
     }
-    if whole { 0 } else { 3 }
+    if whole { Ok(()) } else { Err(Refusal::Short) }
 }
 
-// What is wrong with a slot, at the front of b: its length, then its record.
-fn slot_number(version: u8, b: &[u8], slot: usize, n: usize) -> u8
-    requires { slot < 16 }
-    ensures { result ≡ slot_number version slot n b.now }
+// A slot, at the front of b: its length, then its record.
+#[tactic(auto, unfolding(image::specs::Refusal::slot_number))]
+fn check_slot(version: u8, b: &[u8], slot: SlotNumber, n: usize) -> Result<(), Refusal>
+    ensures { number result ≡ slot_number version slot.number n b.now }
 {
-    let length = length_number(version, b);
-    if length != 0 {
-        return length;
-    }
-    record_number(version, image::front_record(b), slot, n)
+    check_length(version, b)?;
+    check_record(version, image::front_record(b), slot, n)
 }
 
-// What is wrong with the sixteen slots, the first that is met.
-fn slots_number(version: u8, b: &[u8], n: usize) -> u8
-    ensures { result ≡ slots_number version 16 0 n b.now }
+// The sixteen slots.
+#[tactic(auto, using(image::proofs::Walk::slots_first, image::proofs::Walk::slots_done))]
+fn check_slots(version: u8, b: &[u8], n: usize) -> Result<(), Refusal>
+    ensures { number result ≡ slots_number version 16 0 n b.now }
 {
     let mut rest = b;
-    let mut slot: usize = 0;
-    while slot < 16 {
-        let x = slot_number(version, rest, slot, n);
-        if x != 0 {
-            return x;
-        }
-        let next = image::behind(rest);
-        rest = next;
-        slot += 1;
+    for slot in 0..16 {
+        check_slot(version, rest, SlotNumber { number: slot }, n)?;
+        rest = image::behind(rest);
     }
-    0
+    Ok(())
 }
 
-fn tail_number(image: &[u8]) -> u8
-    ensures { result ≡ tail_number image.now }
+#[tactic(auto, using(std::proofs::lemmas::Bool::Decides::nat_tests), unfolding(image::specs::Refusal::tail_number))]
+fn check_tail(image: &[u8]) -> Result<(), Refusal>
+    ensures { number result ≡ tail_number image.now }
 {
-    unless(image::skip(image::slots_part(image), 16).len() == 0, 11)
+    if image::skip(image::slots_part(image), 16).len() == 0 {
+        Ok(())
+    } else {
+        Err(Refusal::Tail)
+    }
 }
 
 // The higher of two.
@@ -243,45 +241,42 @@ fn spares_unused(version: u8, b: &[u8]) -> bool
     true
 }
 
-fn estate_number(image: &[u8]) -> u8
-    ensures { result ≡ estate_number image.now }
+#[tactic(auto, unfolding(image::specs::Refusal::estate_number))]
+fn check_estate(image: &[u8]) -> Result<(), Refusal>
+    ensures { number result ≡ estate_number image.now }
 {
-    unless(
-        spares_unused(image::version(image), image::slots_part(image)),
-        12,
-    )
+    if spares_unused(image::version(image), image::slots_part(image)) {
+        Ok(())
+    } else {
+        Err(Refusal::Estate)
+    }
 }
 
-// The number of an image, the first that is met front to back: 0 where it is accepted.
-pub fn number(image: &[u8]) -> u8
-    ensures { result ≡ image_number image.now }
+// Why an image is refused, if it is: what is met first, front to back.
+#[tactic(auto, unfolding(image::specs::Refusal::image_number))]
+pub fn check(image: &[u8]) -> Result<(), Refusal>
+    ensures { number result ≡ image_number image.now }
 {
-    let head = head_number(image);
-    if head != 0 {
-        return head;
-    }
-    let slots = slots_number(
+    check_version(image)?;
+    check_program(image)?;
+    check_turn_slot(image)?;
+    check_slots(
         image::version(image),
         image::slots_part(image),
         image::program(image).len() / 4,
-    );
-    if slots != 0 {
-        return slots;
-    }
-    let tail = tail_number(image);
-    if tail != 0 {
-        return tail;
-    }
-    estate_number(image)
+    )?;
+    check_tail(image)?;
+    check_estate(image)
 }
 
 // ---- a slot's record
 
 // The bytes from a slot on: none for a slot above 15 and a refused image.
+#[tactic(auto, unfolding(image::specs::Inner::from_slot))]
 fn from_slot(image: &[u8], slot: usize) -> &[u8]
     ensures { result.now ≡ from_slot image.now slot }
 {
-    if (slot <= 15) & (number(image) == 0) {
+    if (slot <= 15) & check(image).is_ok() {
         image::skip(image::slots_part(image), slot)
     } else {
         wire::take(image, 0)
