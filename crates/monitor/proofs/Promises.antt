@@ -4,23 +4,29 @@ use Prim.Native.Nat.{ℕ, ◌^◌, ◌<◌, ◌≤◌}
 use mathlib.Core.Path.{◌≡◌, refl}
 use mathlib.Core.List.{List, [], ◌∷◌}
 use lib.ListN.{length}
-use Rattle.monitor.specs.Calls.{Call, call_answer, call_output, refusal, output_answer}
+use Rattle.monitor.specs.Calls.{Call, call_answer, call_output, told, told_post, output_answer}
 use Rattle.monitor.specs.CallList.{Request, ask_turns, ask_post, HostCall, image_after, request_call, Fits, KeptPromises}
 use Rattle.monitor.specs.Claims.{Made}
-use Rattle.monitor.proofs.Keeps.{Keeps, number_of, size_of, busy_of, room_of}
-use Rattle.monitor.specs.contracts.refused as Refused
-use Rattle.monitor.proofs.refused.Symbol as RefusedCode
-use Rattle.monitor.proofs.refused.Met as RefusedMet
-use Rattle.monitor.specs.contracts.answered as Answered
-use Rattle.monitor.proofs.answered.Symbol as AnsweredCode
-use Rattle.monitor.proofs.answered.Met as AnsweredMet
+use Rattle.monitor.proofs.Keeps.{Keeps, call_of, size_of, busy_of, room_of}
+use Rattle.monitor.specs.contracts.AnswerFromResultWrittenRefusal.from as Told
+use Rattle.monitor.proofs.AnswerFromResultWrittenRefusal.from.Symbol as ToldCode
+use Rattle.monitor.proofs.AnswerFromResultWrittenRefusal.from.Met as ToldMet
+use Rattle.monitor.specs.contracts.PostAnswerFromResultPostedRefusal.from as PostTold
+use Rattle.monitor.proofs.PostAnswerFromResultPostedRefusal.from.Symbol as PostToldCode
+use Rattle.monitor.proofs.PostAnswerFromResultPostedRefusal.from.Met as PostToldMet
+use Rattle.monitor.specs.contracts.end_call as EndCall
+use Rattle.monitor.proofs.end_call.Symbol as EndCallCode
+use Rattle.monitor.proofs.end_call.Met as EndCallMet
 
 module _ {M : Type 1} where
-  pub refused_keeps : Keeps M Refused.ended RefusedCode.code RefusedCode.name (λ κs a r e. r ≡ refusal (number_of a))
-  refused_keeps = RefusedMet.met
+  pub told_keeps : Keeps M Told.ended ToldCode.code ToldCode.name (λ κs a r e. r ≡ told (call_of a))
+  told_keeps = ToldMet.met
 
-  pub answered_keeps : Keeps M Answered.ended AnsweredCode.code AnsweredCode.name (λ κs a r e. r ≡ output_answer (size_of a) (busy_of a) (room_of a))
-  answered_keeps = AnsweredMet.met
+  pub post_told_keeps : Keeps M PostTold.ended PostToldCode.code PostToldCode.name (λ κs a r e. r ≡ told_post (call_of a))
+  post_told_keeps = PostToldMet.met
+
+  pub end_call_keeps : Keeps M EndCall.ended EndCallCode.code EndCallCode.name (λ κs a r e. told r ≡ output_answer (size_of a) (busy_of a) (room_of a))
+  end_call_keeps = EndCallMet.met
 
 -- ---- lists of calls that keep the promises: none, and one with any output ahead of others
 

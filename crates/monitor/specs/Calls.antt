@@ -1,7 +1,9 @@
 -- The calls that write: what each tells, and what its output holds afterwards; the sheet's is in sheet/specs/Sheet.antt, those of
 -- writer and lister are in listing/specs/Listing.antt. Of the others `check` tells `image_number` (image/specs/Refusal.antt), and
 -- `record` and `record_extent` tell `record_part` and `record_extent` (image/specs/Part.antt).
-use Rattle.std.specs.Prelude.{ℕ, ◌≡◌, Bool, cond, ◌&&◌, List, leb, eqb, length}
+use Rattle.std.specs.Prelude.{ℕ, ◌≡◌, Bool, false, cond, ◌&&◌, List, Result, Ok, Err, leb, eqb, length}
+use Rattle.refusal.specs.declared.Refusal.{Refusal}
+use Rattle.refusal.specs.Refusal.{number_of}
 use Rattle.wire.specs.Output.{overwrite}
 use Rattle.machine.specs.Post.{post, delivered}
 use Rattle.machine.specs.Machine.{turns, busy, view}
@@ -9,6 +11,8 @@ use Rattle.image.specs.Image.{state_of, image_bytes}
 use Rattle.image.specs.Refusal.{observer_number, turn_limit_number, post_number, image_number, first_met}
 use Rattle.monitor.specs.declared.Answer.{Answer}
 use Rattle.monitor.specs.declared.PostAnswer.{PostAnswer}
+use Rattle.monitor.specs.declared.Written.{Written}
+use Rattle.monitor.specs.declared.Posted.{Posted}
 
 -- a call: the number of its arguments, 0 where they are within their limits or there are none; the number of what it reads, of the
 -- monitor's calls an image; the bytes to write; the busy count
@@ -24,6 +28,11 @@ call_number c out = first_met c.argument_number c.input_number c.bytes out
 -- a refused call tells its number, length 0 and busy count 0; an accepted one tells number 0
 abbrev pub refusal : ℕ → Answer
 refusal n = record { number = n; length = 0; busy = 0 }
+
+-- what a call tells by what its code returned
+abbrev pub told : Result Written Refusal → Answer
+told (Ok w) = record { number = 0; length = w.length; busy = w.busy }
+told (Err r) = refusal (number_of r)
 
 unfoldable pub call_answer : Call → List ℕ → Answer
 call_answer c out =
@@ -75,6 +84,11 @@ post_delivered slot label value image out =
 abbrev pub PostPromise : ℕ → ℕ → ℕ → List ℕ → List ℕ → PostAnswer → List ℕ → Type 0
 PostPromise slot label value image out told after =
     CallPromise (post_call slot label value image) out told.answer after × (told.delivered ≡ post_delivered slot label value image out)
+
+-- what a post tells by what its code returned
+abbrev pub told_post : Result Posted Refusal → PostAnswer
+told_post (Ok p) = record { answer = told (Ok p.written); delivered = p.delivered }
+told_post (Err r) = record { answer = refusal (number_of r); delivered = false }
 
 -- ---- view: the view for label v
 

@@ -3,7 +3,9 @@
 #![tactic(auto)]
 
 ghost use Rattle.std.specs.Prelude.{◌≡◌};
-ghost use Rattle.monitor.specs.Calls.{refusal, output_answer};
+ghost use Rattle.monitor.specs.Calls.{output_answer, told, told_post};
+
+use refusal::Refusal;
 
 // What a call tells: the papers' number, 0 where it is accepted; the length of what it wrote; the turns that met a live task.
 #[derive(Clone, Copy)]
@@ -20,28 +22,66 @@ pub struct PostAnswer {
     pub delivered: bool,
 }
 
-// What a refused call tells.
-pub fn refused(number: u8) -> Answer
-    ensures { result ≡ refusal number }
-{
-    Answer {
-        number: number,
-        length: 0,
-        busy: 0,
+// What an accepted call tells.
+#[derive(Clone, Copy)]
+pub struct Written {
+    pub length: usize,
+    pub busy: u64,
+}
+
+// What an accepted post tells.
+#[derive(Clone, Copy)]
+pub struct Posted {
+    pub written: Written,
+    pub delivered: bool,
+}
+
+impl From<Result<Written, Refusal>> for Answer {
+    ghost from_gives = { λ call answer. answer ≡ told call };
+
+    fn from(call: Result<Written, Refusal>) -> Answer {
+        match call {
+            Ok(written) => Answer {
+                number: 0,
+                length: written.length,
+                busy: written.busy,
+            },
+            Err(refusal) => Answer {
+                number: u8::from(refusal),
+                length: 0,
+                busy: 0,
+            },
+        }
     }
 }
 
-// What a call tells that has written `size` bytes if the output has room for them: 13 where it has not.
-pub fn answered(size: usize, busy: u64, room: usize) -> Answer
-    ensures { result ≡ output_answer size busy room }
+impl From<Result<Posted, Refusal>> for PostAnswer {
+    ghost from_gives = { λ post answer. answer ≡ told_post post };
+
+    fn from(post: Result<Posted, Refusal>) -> PostAnswer {
+        match post {
+            Ok(posted) => PostAnswer {
+                answer: Answer::from(Ok(posted.written)),
+                delivered: posted.delivered,
+            },
+            Err(refusal) => PostAnswer {
+                answer: Answer::from(Err(refusal)),
+                delivered: false,
+            },
+        }
+    }
+}
+
+// Ends a call that has written `size` bytes if the output has room for them, and refuses it where it has not.
+pub fn end_call(size: usize, busy: u64, room: usize) -> Result<Written, Refusal>
+    ensures { told result ≡ output_answer size busy room }
 {
     if size <= room {
-        Answer {
-            number: 0,
+        Ok(Written {
             length: size,
             busy: busy,
-        }
+        })
     } else {
-        refused(13)
+        Err(Refusal::Output)
     }
 }
