@@ -1,8 +1,7 @@
 -- The slots once a task has carried out an instruction, and what that rests on.
-use Rattle.std.specs.Prelude.{◌≡◌, ℕ, ◌+◌, ◌<◌, ◌≤◌, Bool, true, false, ◌&&◌, List, length}
+use Rattle.std.specs.Prelude.{◌≡◌, ℕ, ◌+◌, ◌<◌, ◌≤◌, Bool, true, false, ◌&&◌, List, length, Some}
 use Rattle.label.specs.Label.{flows, join}
 use Rattle.instruction.specs.declared.Instruction.{Instruction}
-use Rattle.instruction.specs.declared.Decoded.TheVariants.{Legal}
 use Rattle.instruction.specs.Table.{decode}
 use Rattle.machine.specs.Limits.{highest_label}
 use Rattle.machine.specs.declared.Message.{Message}
@@ -44,4 +43,4 @@ pub record WasDecoded (i : Instruction) : Type 0 where
   pub a : ℕ
   pub b : ℕ
   pub c : ℕ
-  pub legal : decode n code a b c ≡ Legal i
+  pub legal : decode n code a b c ≡ Some i

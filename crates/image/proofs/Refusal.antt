@@ -9,9 +9,9 @@ use native.Mathlib.Omega.{arith}
 use borrow.Author.Tests.{le-leb, leb-true}
 use lib.Dec.{leb}
 use lib.ListN.{length}
+use Rattle.std.specs.Prelude.{Option, Some, None}
 use Rattle.wire.specs.Lists.{each}
-use Rattle.instruction.specs.declared.Decoded.{Decoded}
-use Rattle.instruction.specs.declared.Decoded.TheVariants.{Legal, Illegal}
+use Rattle.instruction.specs.declared.Instruction.{Instruction}
 use Rattle.instruction.specs.Program.{count, instruction_at, is_legal, all_legal}
 use Rattle.image.specs.Refusal.{◌then◌, unless, short, decoded_number, instructions_number}
 
@@ -85,11 +85,11 @@ long_enough n b h = rw (le-leb n (length b) h)
 
 -- ---- the instructions: no number exactly where all are legal
 
-legal_number : (t : Bool) (d : Decoded) → (unless t 6 then decoded_number d) ≡ unless (is_legal d && t) 6
-legal_number true (Legal i) = refl
-legal_number true Illegal = refl
-legal_number false (Legal i) = refl
-legal_number false Illegal = refl
+legal_number : (t : Bool) (d : Option Instruction) → (unless t 6 then decoded_number d) ≡ unless (is_legal d && t) 6
+legal_number true (Some i) = refl
+legal_number true None = refl
+legal_number false (Some i) = refl
+legal_number false None = refl
 
 first_number : (program : List ℕ) (k : ℕ) → instructions_number k program ≡ unless (each k (λ pc. is_legal (instruction_at program pc))) 6
 unfolding instructions_number each

@@ -1,9 +1,8 @@
 -- The numbers a caller may receive, in the order of 01 and 02: each with its condition, behind what comes before it. The tests of
 -- tasks taken apart, behind 4, 5, 9, 10 and 12, are machine's (machine/specs/Version.antt, Valid.antt). 16, and 5 and 6 of lines of text, are in
 -- listing/specs/Listing.antt.
-use Rattle.std.specs.Prelude.{ℕ, zero, suc, ◌+◌, ◌-◌, ◌/◌, ◌%◌, Bool, true, false, ◌&&◌, ◌||◌, List, leb, eqb, length}
-use Rattle.instruction.specs.declared.Decoded.{Decoded}
-use Rattle.instruction.specs.declared.Decoded.TheVariants.{Legal, Illegal}
+use Rattle.std.specs.Prelude.{ℕ, zero, suc, ◌+◌, ◌-◌, ◌/◌, ◌%◌, Bool, true, false, ◌&&◌, ◌||◌, List, leb, eqb, length, Option, Some, None}
+use Rattle.instruction.specs.declared.Instruction.{Instruction}
 use Rattle.instruction.specs.Program.{count, instruction_at}
 use Rattle.machine.specs.Limits.{highest_label, highest_slot, most_messages, turn_limit}
 use Rattle.machine.specs.Version.{is_version}
@@ -51,9 +50,9 @@ unfoldable pub version_number : List ℕ → ℕ
 version_number b = short 1 b then unless (is_version (version_of b)) 4
 
 -- 6 instruction, behind 5 in `program_number`: not in the table, or an operand outside it
-abbrev pub decoded_number : Decoded → ℕ
-decoded_number (Legal i) = 0
-decoded_number Illegal = 6
+abbrev pub decoded_number : Option Instruction → ℕ
+decoded_number (Some i) = 0
+decoded_number None = 6
 
 -- the first k instructions
 unfoldable pub instructions_number : ℕ → List ℕ → ℕ

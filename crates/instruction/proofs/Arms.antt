@@ -4,20 +4,16 @@ use mathlib.Core.Path.{◌≡◌, refl}
 use mathlib.Core.Bool.{and-true}
 use mathlib.Core.List.{List, [], ◌∷◌}
 use borrow.Author.Tests.{ne_eqb}
+use Rattle.std.specs.Prelude.{Option, None}
 use Rattle.instruction.specs.declared.Instruction.{Instruction}
 use Rattle.instruction.specs.declared.Instruction.TheVariants.{End}
-use Rattle.instruction.specs.declared.Decoded.{Decoded}
-use Rattle.instruction.specs.declared.Decoded.TheVariants.{Illegal}
 use Rattle.instruction.specs.Table.{Row, table, by_code, decode_by, decode}
 use Rattle.instruction.specs.Inner.{form_in, form_of}
 
 -- where the code is the number k, the table computes to k's row
-pub decode_at : (d : Decoded) (n code k a b c : ℕ) → code ≡ k → d ≡ by_code (decode_by n a b c) Illegal table k → d ≡ decode n code a b c
+pub decode_at : (d : Option Instruction) (n code k a b c : ℕ) → code ≡ k → d ≡ by_code (decode_by n a b c) None table k → d ≡ decode n code a b c
 unfolding decode
 decode_at d n code k a b c e h = rw e h
-
--- an operand that may be any byte is not tested in the code
-pub ruleset by_Row = (decode_at, and-true)
 
 pub form_at : (i : Instruction) (code k a b c : ℕ) → code ≡ k → i ≡ form_in table k a b c → i ≡ form_of code a b c
 unfolding form_of
@@ -42,9 +38,12 @@ no_row f d P (r ∷ rs) code p =
 pub none_by_code : {A : Type 0} (f : Row → A) (d : A) (code : ℕ) → NoRow (Unit {0}) code table → d ≡ by_code f d table code
 none_by_code f d = no_row f d (Unit {0}) table
 
-pub decode_none : (n code a b c : ℕ) → NoRow (Unit {0}) code table → Illegal ≡ decode n code a b c
+pub decode_none : (n code a b c : ℕ) → NoRow (Unit {0}) code table → None ≡ decode n code a b c
 unfolding decode
-decode_none n code a b c = none_by_code (decode_by n a b c) Illegal code
+decode_none n code a b c = none_by_code (decode_by n a b c) None code
+
+-- an operand that may be any byte is not tested in the code
+pub ruleset by_row = (decode_at, and-true, decode_none)
 
 -- all rows but the last, and the form of the last
 abbrev pub but_last : List Row → List Row
@@ -68,3 +67,5 @@ rows_last P (r ∷ q ∷ rs) code a b c p =
 pub form_last : (code a b c : ℕ) → NoRow (Unit {0}) code (but_last table) → last_form table a b c ≡ form_of code a b c
 unfolding form_of
 form_last = rows_last (Unit {0}) table
+
+pub ruleset by_form = (form_at, form_last)

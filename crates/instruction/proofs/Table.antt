@@ -7,13 +7,13 @@ use native.Mathlib.Omega.{arith}
 use borrow.Author.Tests.{eqb-true, ltb-true, leb-true}
 use lib.Dec.{eqb, leb}
 use lib.ListN.{get_or}
+use Rattle.std.specs.Prelude.{Option, Some, None}
+use Rattle.std.specs.Bool.{then_some}
 use Rattle.wire.specs.Lists.{Every}
 use Rattle.wire.proofs.Lists.{split, and_both}
 use Rattle.instruction.specs.declared.Instruction.{Instruction}
 use Rattle.instruction.specs.declared.Instruction.TheVariants.{End, Set, Copy, Add, Subtract, Go, Zero, Raise, Send, Take, Poll, Sandbox, Identity, Count}
-use Rattle.instruction.specs.declared.Decoded.{Decoded}
-use Rattle.instruction.specs.declared.Decoded.TheVariants.{Legal, Illegal}
-use Rattle.instruction.specs.Table.{Operand, R, T, L, S, any, blank, admits, Row, table, legal_if, by_code, decode_by, decode}
+use Rattle.instruction.specs.Table.{Operand, R, T, L, S, any, blank, admits, Row, table, by_code, decode_by, decode}
 use Rattle.instruction.specs.Program.{is_legal}
 use Rattle.instruction.specs.Inner.{form_in, form_of}
 use Rattle.instruction.proofs.Encode.{encode}
@@ -46,14 +46,14 @@ written : Every Written table
 written = search depth 256
 
 row_back : (r : Row) → Written r → (n a b c : ℕ) (t : Bool) → (admits r.a n a && admits r.b n b && admits r.c n c) ≡ t
-    → (i : Instruction) → legal_if t (r.form a b c) ≡ Legal i → encode i ≡ r.code ∷ a ∷ b ∷ c ∷ []
+    → (i : Instruction) → then_some t (r.form a b c) ≡ Some i → encode i ≡ r.code ∷ a ∷ b ∷ c ∷ []
 row_back r w n a b c true t i e =
     let abc = and_both (admits r.a n a && admits r.b n b) (admits r.c n c) t in
     let ab = and_both (admits r.a n a) (admits r.b n b) abc.0 in
     cc (w a b c, shown_is r.a n a ab.0, shown_is r.b n b ab.1, shown_is r.c n c abc.1)
 row_back r w n a b c false t i e = cc
 
-rows_back : (rs : List Row) → Every Written rs → (n code a b c : ℕ) (i : Instruction) → by_code (decode_by n a b c) Illegal rs code ≡ Legal i → encode i ≡ code ∷ a ∷ b ∷ c ∷ []
+rows_back : (rs : List Row) → Every Written rs → (n code a b c : ℕ) (i : Instruction) → by_code (decode_by n a b c) None rs code ≡ Some i → encode i ≡ code ∷ a ∷ b ∷ c ∷ []
 rows_back [] w n code a b c i e = cc
 rows_back (r ∷ rs) w n code a b c i e =
     let ih = rows_back rs w.1 n code a b c i in
@@ -62,18 +62,18 @@ rows_back (r ∷ rs) w n code a b c i e =
     (λ t. ih (rw t at e))
 
 -- bytes that decode are written again as they were read
-pub encode_decode : (n code a b c : ℕ) (i : Instruction) → decode n code a b c ≡ Legal i → encode i ≡ code ∷ a ∷ b ∷ c ∷ []
+pub encode_decode : (n code a b c : ℕ) (i : Instruction) → decode n code a b c ≡ Some i → encode i ≡ code ∷ a ∷ b ∷ c ∷ []
 unfolding decode
 encode_decode = rows_back table written
 
 -- ---- bytes that decode, to the form of their code
 
-row_form : (t : Bool) (i : Instruction) → is_legal (legal_if t i) ≡ true → legal_if t i ≡ Legal i
+row_form : (t : Bool) (i : Instruction) → is_legal (then_some t i) ≡ true → then_some t i ≡ Some i
 row_form true i e = refl
 row_form false i e = cc
 
-rows_form : (rs : List Row) (n code a b c : ℕ) → is_legal (by_code (decode_by n a b c) Illegal rs code) ≡ true
-    → by_code (decode_by n a b c) Illegal rs code ≡ Legal (form_in rs code a b c)
+rows_form : (rs : List Row) (n code a b c : ℕ) → is_legal (by_code (decode_by n a b c) None rs code) ≡ true
+    → by_code (decode_by n a b c) None rs code ≡ Some (form_in rs code a b c)
 rows_form [] n code a b c e = cc
 rows_form (r ∷ []) n code a b c e =
     split (eqb code r.code)
@@ -85,7 +85,7 @@ rows_form (r ∷ q ∷ rs) n code a b c e =
     (λ t. rw t (row_form (admits r.a n a && admits r.b n b && admits r.c n c) (r.form a b c) (rw t at e)))
     (λ t. rw t (ih (rw t at e)))
 
-pub decode_form : (n code a b c : ℕ) → is_legal (decode n code a b c) ≡ true → decode n code a b c ≡ Legal (form_of code a b c)
+pub decode_form : (n code a b c : ℕ) → is_legal (decode n code a b c) ≡ true → decode n code a b c ≡ Some (form_of code a b c)
 unfolding decode form_of
 decode_form = rows_form table
 
@@ -124,11 +124,11 @@ abbrev pub all_admitted : ℕ → Operands → Bool
 all_admitted n o = admits o.x n o.a && admits o.y n o.b && admits o.z n o.c
 
 -- what an instruction's four bytes decode to
-abbrev pub decoded : ℕ → Instruction → Decoded
+abbrev pub decoded : ℕ → Instruction → Option Instruction
 decoded n i = decode n (get_or (encode i) 0 0) (get_or (encode i) 1 0) (get_or (encode i) 2 0) (get_or (encode i) 3 0)
 
 -- an instruction's bytes decode to it, or to none where an operand is outside the table
-pub decode_encode : (n : ℕ) (i : Instruction) → decoded n i ≡ legal_if (all_admitted n (operands_of i)) i
+pub decode_encode : (n : ℕ) (i : Instruction) → decoded n i ≡ then_some (all_admitted n (operands_of i)) i
 unfolding decode
 decode_encode n End = refl
 decode_encode n (Set a b c) = refl
@@ -169,7 +169,7 @@ abbrev pub Sound : ℕ → Instruction → Type 0
 Sound n i =
     Within (operands_of i).x n (operands_of i).a × Within (operands_of i).y n (operands_of i).b × Within (operands_of i).z n (operands_of i).c
 
-legal_test : (t : Bool) (i j : Instruction) → legal_if t i ≡ Legal j → t ≡ true
+legal_test : (t : Bool) (i j : Instruction) → then_some t i ≡ Some j → t ≡ true
 legal_test true i j e = refl
 legal_test false i j e = cc
 
@@ -179,7 +179,7 @@ admitted_within n o e =
     let xy = and_both (admits o.x n o.a) (admits o.y n o.b) xyz.0 in
     (within o.x n o.a xy.0, within o.y n o.b xy.1, within o.z n o.c xyz.1)
 
-pub decode_sound : (n code a b c : ℕ) (i : Instruction) → decode n code a b c ≡ Legal i → Sound n i
+pub decode_sound : (n code a b c : ℕ) (i : Instruction) → decode n code a b c ≡ Some i → Sound n i
 decode_sound n code a b c i e =
-    let d : decoded n i ≡ Legal i = rw (encode_decode n code a b c i e) e in
+    let d : decoded n i ≡ Some i = rw (encode_decode n code a b c i e) e in
     admitted_within n (operands_of i) (legal_test (all_admitted n (operands_of i)) i i (sym (decode_encode n i) ∙ d))

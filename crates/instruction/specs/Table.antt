@@ -1,10 +1,9 @@
 -- The table of instructions as data, and what four bytes decode to.
-use Rattle.std.specs.Prelude.{ℕ, Bool, true, false, cond, ◌&&◌, List, [], ◌∷◌, leb, ltb, eqb}
+use Rattle.std.specs.Prelude.{ℕ, Bool, true, cond, ◌&&◌, List, [], ◌∷◌, leb, ltb, eqb, Option, None}
+use Rattle.std.specs.Bool.{then_some}
 use Prim.Native.String.{String}
 use Rattle.instruction.specs.declared.Instruction.{Instruction}
 use Rattle.instruction.specs.declared.Instruction.TheVariants.{End, Set, Copy, Add, Subtract, Go, Zero, Raise, Send, Take, Poll, Sandbox, Identity, Count}
-use Rattle.instruction.specs.declared.Decoded.{Decoded}
-use Rattle.instruction.specs.declared.Decoded.TheVariants.{Legal, Illegal}
 
 -- what a byte of an instruction may be: R a register number 0 to 7, T a target below N, L a label 0 to 15,
 -- S a size 1 to 15, any byte, or blank: a byte shown as 0, which must be 0
@@ -50,10 +49,6 @@ table =
     ∷ row 0x0D "count" R blank blank (λ a b c. Count a)
     ∷ []
 
-abbrev pub legal_if : Bool → Instruction → Decoded
-legal_if true i = Legal i
-legal_if false i = Illegal
-
 -- what f makes of the row with the code, and d where there is none
 module _ {A : Type 0} where
   abbrev pub by_code : (Row → A) → A → List Row → ℕ → A
@@ -61,9 +56,9 @@ module _ {A : Type 0} where
   by_code f d (r ∷ rs) code = cond (eqb code r.code) (f r) (by_code f d rs code)
 
 -- a row with operands, in a program of n instructions
-abbrev pub decode_by : ℕ → ℕ → ℕ → ℕ → Row → Decoded
-decode_by n a b c r = legal_if (admits r.a n a && admits r.b n b && admits r.c n c) (r.form a b c)
+abbrev pub decode_by : ℕ → ℕ → ℕ → ℕ → Row → Option Instruction
+decode_by n a b c r = then_some (admits r.a n a && admits r.b n b && admits r.c n c) (r.form a b c)
 
 -- the instruction in the four bytes code a b c, in a program of n instructions
-unfoldable pub decode : ℕ → ℕ → ℕ → ℕ → ℕ → Decoded
-decode n code a b c = by_code (decode_by n a b c) Illegal table code
+unfoldable pub decode : ℕ → ℕ → ℕ → ℕ → ℕ → Option Instruction
+decode n code a b c = by_code (decode_by n a b c) None table code

@@ -1,14 +1,13 @@
 // Instructions: each code is decoded into one form that carries its own operands.
 #![tactic(auto)]
 
-ghost use Rattle.std.specs.Prelude.{◌<◌, ◌≡◌, true};
-ghost use Rattle.instruction.specs.declared.Decoded.TheVariants.{Legal};
-ghost use Rattle.instruction.specs.Table.{legal_if, decode};
-ghost use Rattle.instruction.specs.Program.{count, instruction_at, is_legal, all_legal};
+ghost use Rattle.std.specs.Prelude.{◌<◌, ◌≡◌, true, Some};
+ghost use Rattle.instruction.specs.Table.{decode};
+ghost use Rattle.instruction.specs.Program.{count, instruction_at, all_legal};
 ghost use Rattle.instruction.specs.Inner.{form_of};
 
 // The table of 01 with U4's row, a case to a row; `Identity` is its word self, which the language reserves.
-#[derive(Drop)]
+#[derive(Clone, Copy, Debug, PartialEq, Eq)]
 pub enum Instruction {
     End,
     Set(u8, u8, u8),
@@ -26,58 +25,35 @@ pub enum Instruction {
     Count(u8),
 }
 
-// What four bytes decode to: an instruction of the table, or none.
-#[derive(Drop)]
-pub enum Decoded {
-    Legal(Instruction),
-    Illegal,
-}
-
-// The instruction, where its operands are within the table.
-fn legal_if(ok: bool, i: Instruction) -> Decoded
-    ensures { result ≡ legal_if ok i }
-{
-    if ok {
-        Decoded::Legal(i)
-    } else {
-        Decoded::Illegal
-    }
-}
-
 // The instruction in four bytes of a program of n instructions.
-pub fn decode(n: usize, code: u8, a: u8, b: u8, c: u8) -> Decoded
+#[tactic(auto, using(crate::proofs::Arms::by_row))]
+pub fn decode(n: usize, code: u8, a: u8, b: u8, c: u8) -> Option<Instruction>
     ensures { result ≡ decode n code a b c }
 {
     match code {
-        0x00 => legal_if((a == 0) & (b == 0) & (c == 0), Instruction::End),
-        0x01 => legal_if(a < 8, Instruction::Set(a, b, c)),
-        0x02 => legal_if((a < 8) & (b < 8) & (c == 0), Instruction::Copy(a, b)),
-        0x03 => legal_if((a < 8) & (b < 8) & (c < 8), Instruction::Add(a, b, c)),
-        0x04 => legal_if((a < 8) & (b < 8) & (c < 8), Instruction::Subtract(a, b, c)),
-        0x05 => legal_if(((a as usize) < n) & (b == 0) & (c == 0), Instruction::Go(a)),
-        0x06 => legal_if(
-            (a < 8) & ((b as usize) < n) & (c == 0),
-            Instruction::Zero(a, b),
-        ),
-        0x07 => legal_if((a < 16) & (b == 0) & (c == 0), Instruction::Raise(a)),
-        0x08 => legal_if((a < 8) & (b < 16) & (c < 8), Instruction::Send(a, b, c)),
-        0x09 => legal_if((a < 8) & (b < 8) & (c == 0), Instruction::Take(a, b)),
-        0x0A => legal_if(
-            (a < 8) & (b < 8) & ((c as usize) < n),
-            Instruction::Poll(a, b, c),
-        ),
-        0x0B => legal_if(
-            (a < 8) & ((b as usize) < n) & ((1 <= c) & (c <= 15)),
+        0x00 => ((a == 0) & (b == 0) & (c == 0)).then_some(Instruction::End),
+        0x01 => (a < 8).then_some(Instruction::Set(a, b, c)),
+        0x02 => ((a < 8) & (b < 8) & (c == 0)).then_some(Instruction::Copy(a, b)),
+        0x03 => ((a < 8) & (b < 8) & (c < 8)).then_some(Instruction::Add(a, b, c)),
+        0x04 => ((a < 8) & (b < 8) & (c < 8)).then_some(Instruction::Subtract(a, b, c)),
+        0x05 => (((a as usize) < n) & (b == 0) & (c == 0)).then_some(Instruction::Go(a)),
+        0x06 => ((a < 8) & ((b as usize) < n) & (c == 0)).then_some(Instruction::Zero(a, b)),
+        0x07 => ((a < 16) & (b == 0) & (c == 0)).then_some(Instruction::Raise(a)),
+        0x08 => ((a < 8) & (b < 16) & (c < 8)).then_some(Instruction::Send(a, b, c)),
+        0x09 => ((a < 8) & (b < 8) & (c == 0)).then_some(Instruction::Take(a, b)),
+        0x0A => ((a < 8) & (b < 8) & ((c as usize) < n)).then_some(Instruction::Poll(a, b, c)),
+        0x0B => ((a < 8) & ((b as usize) < n) & ((1 <= c) & (c <= 15))).then_some(
             Instruction::Sandbox(a, b, c),
         ),
-        0x0C => legal_if((a < 8) & (b < 8) & (c == 0), Instruction::Identity(a, b)),
-        0x0D => legal_if((a < 8) & (b == 0) & (c == 0), Instruction::Count(a)),
-        _ => Decoded::Illegal,
+        0x0C => ((a < 8) & (b < 8) & (c == 0)).then_some(Instruction::Identity(a, b)),
+        0x0D => ((a < 8) & (b == 0) & (c == 0)).then_some(Instruction::Count(a)),
+        _ => None,
     }
 }
 
 // The instruction at index pc of a program's bytes; none is legal past its last.
-pub fn instruction_at(program: &[u8], pc: usize) -> Decoded
+#[tactic(auto, using(crate::proofs::Program::by_place))]
+pub fn instruction_at(program: &[u8], pc: usize) -> Option<Instruction>
     ensures { result ≡ instruction_at program.now pc }
 {
     let n = program.len() / 4;
@@ -91,17 +67,7 @@ pub fn instruction_at(program: &[u8], pc: usize) -> Decoded
             program[at + 3],
         )
     } else {
-        Decoded::Illegal
-    }
-}
-
-// Whether an instruction was decoded.
-fn is_legal(d: Decoded) -> bool
-    ensures { result ≡ is_legal d }
-{
-    match d {
-        Decoded::Legal(_) => true,
-        Decoded::Illegal => false,
+        None
     }
 }
 
@@ -110,19 +76,12 @@ pub fn all_legal(program: &[u8]) -> bool
     ensures { result ≡ all_legal program.now }
 {
     let n = program.len() / 4;
-    let mut pc: usize = 0;
-    while pc < n {
-        if is_legal(instruction_at(program, pc)) {
-            pc += 1;
-        } else {
-            return false;
-        }
-    }
-    true
+    (0..n).all(|pc| instruction_at(program, pc).is_some())
 }
 
 // The form of a code with its operands, which are not looked at. A program whose check has passed has the table's codes alone, so
 // the last of them takes what is left: another arm would cost every turn (docs/BENCHMARKS.md).
+#[tactic(auto, using(crate::proofs::Arms::by_form))]
 fn form(code: u8, a: u8, b: u8, c: u8) -> Instruction
     ensures { result ≡ form_of code a b c }
 {
@@ -145,9 +104,10 @@ fn form(code: u8, a: u8, b: u8, c: u8) -> Instruction
 }
 
 // The instruction at index pc of a program whose check has passed: nothing is tested again.
+#[tactic(auto, using(crate::proofs::Program::form_legal))]
 pub fn legal_at(program: &[u8], pc: usize) -> Instruction
     requires { (all_legal program.now ≡ true) × (pc < count program.now) }
-    ensures { instruction_at program.now pc ≡ Legal result }
+    ensures { instruction_at program.now pc ≡ Some result }
 {
     let first = 4 * pc;
     form(

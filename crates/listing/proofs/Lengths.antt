@@ -9,13 +9,14 @@ use native.Mathlib.Omega.{arith}
 use borrow.Author.Tests.{leb-true}
 use lib.Dec.{leb, eqb}
 use lib.ListN.{length, get_or, get_or-eq_default}
+use Rattle.std.specs.Prelude.{None}
+use Rattle.std.specs.Bool.{then_some}
 use Rattle.wire.specs.Lists.{tabulate, all, Bytes}
 use Rattle.wire.proofs.Lists.{split, and_both, byte_at, every_of}
 use Rattle.wire.proofs.Items.{items_most}
 use Rattle.text.specs.Text.{ascii, decimal}
 use Rattle.text.proofs.Text.{decimal_width}
-use Rattle.instruction.specs.declared.Decoded.TheVariants.{Illegal}
-use Rattle.instruction.specs.Table.{Operand, R, T, L, S, any, blank, admits, Row, table, legal_if, by_code, decode_by, decode}
+use Rattle.instruction.specs.Table.{Operand, R, T, L, S, any, blank, admits, Row, table, by_code, decode_by, decode}
 use Rattle.instruction.specs.Program.{count, is_legal, all_legal}
 use Rattle.instruction.proofs.Table.{within}
 use Rattle.instruction.proofs.Program.{at_within, legal_at}
@@ -52,7 +53,7 @@ digits_most blank n x h e = decimal_width 0 x (omega (arith, within blank n x e)
 abbrev row_width : Row → ℕ
 row_width r = length (ascii r.word) + width r.a + width r.b + width r.c
 
-legal_if_lem : (t : Bool) (r : Row) (a b c : ℕ) → is_legal (legal_if t (r.form a b c)) ≡ true → t ≡ true
+legal_if_lem : (t : Bool) (r : Row) (a b c : ℕ) → is_legal (then_some t (r.form a b c)) ≡ true → t ≡ true
 legal_if_lem true r a b c e = refl
 legal_if_lem false r a b c e = cc
 
@@ -71,7 +72,7 @@ module _ (n code a b c : ℕ) (ha : a < 256) (hb : b < 256) (hc : c < 256) where
         digits_most r.c n c hc abc.1,
       )
 
-  rows_most : (rs : List Row) → all (λ r. leb (row_width r) 13) rs ≡ true → is_legal (by_code (decode_by n a b c) Illegal rs code) ≡ true
+  rows_most : (rs : List Row) → all (λ r. leb (row_width r) 13) rs ≡ true → is_legal (by_code (decode_by n a b c) None rs code) ≡ true
       → length (by_code (λ r. ascii r.word) [] rs code) + length (decimal a) + length (decimal b) + length (decimal c) ≤ 13
   unfolding all
   rows_most [] w e = let z : ◌≡◌ {A = ℕ} 0 1 = cc in absurd (omega arith)

@@ -10,10 +10,10 @@ use borrow.Author.Tests.{leb-true, le-leb, ltb-true, eqb-true, eq-eqb}
 use lib.Dec.{leb, ltb, eqb}
 use lib.ListN.{length, get_or, take, get_or-eq_default}
 use lib.Seq.{take_all}
+use Rattle.std.specs.Prelude.{None}
 use Rattle.wire.specs.Lists.{all, Bytes}
 use Rattle.wire.proofs.Lists.{split, and_both, byte_at, every_of, all_intro, all_and}
 use Rattle.wire.proofs.Items.{items_back}
-use Rattle.instruction.specs.declared.Decoded.TheVariants.{Illegal}
 use Rattle.instruction.specs.Table.{Row, table, by_code, decode_by, decode}
 use Rattle.instruction.specs.Program.{count, is_legal, all_legal}
 use Rattle.instruction.proofs.Program.{at_within, legal_at}
@@ -29,7 +29,7 @@ use Rattle.listing.proofs.Assembled.{legal_in, legal_lines, program_length_lem}
 -- ---- a legal instruction's code is in the table
 
 rows_known : (rs : List Row) (n code a b c : ℕ) → all (λ r. ltb r.code (length table)) rs ≡ true
-    → is_legal (by_code (decode_by n a b c) Illegal rs code) ≡ true → code < length table
+    → is_legal (by_code (decode_by n a b c) None rs code) ≡ true → code < length table
 unfolding all
 rows_known [] n code a b c w e = let z : ◌≡◌ {A = ℕ} 0 1 = cc in absurd (omega arith)
 rows_known (r ∷ rs) n code a b c w e =

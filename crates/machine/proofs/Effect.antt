@@ -7,13 +7,12 @@ use mathlib.Core.List.{List}
 use native.Mathlib.Omega.{arith}
 use borrow.Author.Tests.{leb-true}
 use lib.Dec.{leb, ltb, eqb}
+use Rattle.std.specs.Prelude.{Option, Some, None}
 use Rattle.wire.proofs.Lists.{split, keep_keep, first_keep, without_keep}
 use Rattle.label.specs.Label.{is_subset}
 use Rattle.label.proofs.Order.{Order, DownClosed}
 use Rattle.instruction.specs.declared.Instruction.{Instruction}
 use Rattle.instruction.specs.declared.Instruction.TheVariants.{End, Set, Copy, Add, Subtract, Go, Zero, Raise, Send, Take, Poll, Sandbox, Identity, Count}
-use Rattle.instruction.specs.declared.Decoded.{Decoded}
-use Rattle.instruction.specs.declared.Decoded.TheVariants.{Legal, Illegal}
 use Rattle.instruction.specs.Program.{count, instruction_at}
 use Rattle.instruction.proofs.Table.{Sound}
 use Rattle.instruction.proofs.Program.{at_sound}
@@ -82,9 +81,9 @@ module _ (may_flow : ℕ → ℕ → Bool) where
       execute_view (Identity a b) s = refl
       execute_view (Count a) s = rw count_view
 
-      carried_out_view : (d : Decoded) (s : ℕ) → carried_out may_flow joined d s (view_task sees t) ≡ view_outcome sees (carried_out may_flow joined d s t)
-      carried_out_view (Legal i) s = execute_view i s
-      carried_out_view Illegal s = refl
+      carried_out_view : (d : Option Instruction) (s : ℕ) → carried_out may_flow joined d s (view_task sees t) ≡ view_outcome sees (carried_out may_flow joined d s t)
+      carried_out_view (Some i) s = execute_view i s
+      carried_out_view None s = refl
 
       pub outcome_view : (program : List ℕ) (s : ℕ) → outcome may_flow joined program s (view_task sees t) ≡ view_outcome sees (outcome may_flow joined program s t)
       unfolding outcome
@@ -128,9 +127,9 @@ module _ (may_flow : ℕ → ℕ → Bool) where
       execute_contained n (Identity a b) h = without_action_contained _ refl refl refl
       execute_contained n (Count a) h = without_action_contained _ refl refl refl
 
-      carried_out_contained : (program : List ℕ) (d : Decoded) → instruction_at program t.pc ≡ d → Contained s t (carried_out may_flow joined d s t)
-      carried_out_contained program (Legal i) e = execute_contained (count program) i (at_sound program t.pc i e)
-      carried_out_contained program Illegal e = without_action_contained _ refl refl refl
+      carried_out_contained : (program : List ℕ) (d : Option Instruction) → instruction_at program t.pc ≡ d → Contained s t (carried_out may_flow joined d s t)
+      carried_out_contained program (Some i) e = execute_contained (count program) i (at_sound program t.pc i e)
+      carried_out_contained program None e = without_action_contained _ refl refl refl
 
       pub outcome_contained : (program : List ℕ) → Contained s t (outcome may_flow joined program s t)
       unfolding outcome

@@ -9,14 +9,13 @@ use native.Mathlib.Omega.{arith}
 use borrow.Author.Tests.{leb-true, le-leb, eqb-true}
 use lib.Dec.{leb, ltb, eqb}
 use lib.ListN.{get_or, set, replicate, length-set, get_or-map}
+use Rattle.std.specs.Prelude.{Option, Some, None}
 use Rattle.wire.specs.Lists.{Bytes}
 use Rattle.wire.proofs.Lists.{split, and_both, every_at, get_d_set_at}
 use Rattle.label.specs.Label.{is_subset}
 use Rattle.label.proofs.Order.{Order, subset_15}
 use Rattle.instruction.specs.declared.Instruction.{Instruction}
 use Rattle.instruction.specs.declared.Instruction.TheVariants.{End, Set, Copy, Add, Subtract, Go, Zero, Raise, Send, Take, Poll, Sandbox, Identity, Count}
-use Rattle.instruction.specs.declared.Decoded.{Decoded}
-use Rattle.instruction.specs.declared.Decoded.TheVariants.{Legal, Illegal}
 use Rattle.instruction.proofs.Encode.{encode}
 use Rattle.instruction.specs.Program.{count, instruction_at, is_legal}
 use Rattle.instruction.proofs.Table.{Sound}
@@ -190,10 +189,10 @@ module _ (may_flow : ℕ → ℕ → Bool) (joined : ℕ → ℕ → ℕ) (order
     execute_ok (Count a) h g = gets_ok a (found may_flow t).receivable (omega (arith, receivable_64))
 
   module _ (program : List ℕ) (bytes : Bytes program) (size : count program ≡ n) where
-    carried_out_ok : (d : Decoded) → instruction_at program t.pc ≡ d → OutcomeFacts v n s (carried_out may_flow joined d s t)
-    carried_out_ok (Legal i) e =
+    carried_out_ok : (d : Option Instruction) → instruction_at program t.pc ≡ d → OutcomeFacts v n s (carried_out may_flow joined d s t)
+    carried_out_ok (Some i) e =
         execute_ok (omega (arith, at_below program t.pc i e)) i (rw size at (at_sound program t.pc i e)) (at_bytes program t.pc i bytes e)
-    carried_out_ok Illegal e = without_action_ok t ok
+    carried_out_ok None e = without_action_ok t ok
 
     outcome_ok : OutcomeFacts v n s (outcome may_flow joined program s t)
     unfolding outcome

@@ -1,11 +1,9 @@
 -- The effect of each instruction: what its task becomes and what it does to the slots, told from that task alone.
-use Rattle.std.specs.Prelude.{ℕ, ◌+◌, ◌-◌, ◌*◌, ◌^◌, ◌%◌, Bool, cond, List, [], ◌∷◌, leb, ltb, eqb, length, replicate}
+use Rattle.std.specs.Prelude.{ℕ, ◌+◌, ◌-◌, ◌*◌, ◌^◌, ◌%◌, Bool, cond, List, [], ◌∷◌, leb, ltb, eqb, length, replicate, Option, Some, None}
 use Rattle.wire.specs.Lists.{keep, first_index}
 use Rattle.label.specs.Label.{is_subset}
 use Rattle.instruction.specs.declared.Instruction.{Instruction}
 use Rattle.instruction.specs.declared.Instruction.TheVariants.{End, Set, Copy, Add, Subtract, Go, Zero, Raise, Send, Take, Poll, Sandbox, Identity, Count}
-use Rattle.instruction.specs.declared.Decoded.{Decoded}
-use Rattle.instruction.specs.declared.Decoded.TheVariants.{Legal, Illegal}
 use Rattle.instruction.specs.Program.{count, instruction_at}
 use Rattle.machine.specs.declared.Found.{Found}
 use Rattle.machine.specs.declared.Message.{Message}
@@ -90,9 +88,9 @@ module _ (may_flow : ℕ → ℕ → Bool) where
     execute (Count a) s t = gets a (found t).receivable t
 
     -- no accepted image has an illegal instruction
-    abbrev pub carried_out : Decoded → ℕ → Task → Outcome
-    carried_out (Legal i) s t = execute i s t
-    carried_out Illegal s t = without_action t
+    abbrev pub carried_out : Option Instruction → ℕ → Task → Outcome
+    carried_out (Some i) s t = execute i s t
+    carried_out None s t = without_action t
 
     -- what a live task in slot s does with its turn: with place N it gets kind 3, else it carries out one instruction
     unfoldable pub outcome : List ℕ → ℕ → Task → Outcome

@@ -8,9 +8,9 @@ use native.Mathlib.Omega.{arith}
 use borrow.Author.Tests.{eq-eqb, ne_eqb}
 use lib.Dec.{eqb}
 use lib.ListN.{length, get_or, set}
+use Rattle.std.specs.Prelude.{Some}
 use Rattle.label.specs.Label.{flows, join}
 use Rattle.instruction.specs.declared.Instruction.{Instruction}
-use Rattle.instruction.specs.declared.Decoded.TheVariants.{Legal}
 use Rattle.instruction.specs.Program.{count, instruction_at}
 use Rattle.instruction.proofs.Program.{at_within, at_below}
 use Rattle.machine.specs.State.{Slot, unused, used, State, slot_at, has_live_task}
@@ -39,7 +39,7 @@ live_here ss s = there (slot_at ss s)
     there (used t) e = refl
 
 -- what was decoded at a place of the program
-pub was_decoded : (program : List ℕ) (pc : ℕ) (i : Instruction) → instruction_at program pc ≡ Legal i → WasDecoded i
+pub was_decoded : (program : List ℕ) (pc : ℕ) (i : Instruction) → instruction_at program pc ≡ Some i → WasDecoded i
 was_decoded program pc i e =
     record {
       n = count program;
@@ -73,7 +73,7 @@ module _ (program : List ℕ) (s : ℕ) (ss : List Slot) (live : has_live_task (
         }
 
   -- else it carries out one instruction
-  pub act_executes : pc < count program → (i : Instruction) → instruction_at program pc ≡ Legal i → executed i s ss ≡ applied s (outcome flows join program s (task_at ss s)) ss
+  pub act_executes : pc < count program → (i : Instruction) → instruction_at program pc ≡ Some i → executed i s ss ≡ applied s (outcome flows join program s (task_at ss s)) ss
   unfolding outcome executed
   act_executes before i is = rw (ne_eqb (task_at ss s).pc (count program) (λ e. omega arith), ← place, is)
 
