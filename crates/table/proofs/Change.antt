@@ -9,11 +9,11 @@ use Rattle.wire.proofs.Lists.{get_d_set_at}
 use Rattle.wire.proofs.Tabulate.{length_tabulate, get_d_tabulate}
 use Rattle.machine.specs.declared.Message.{Message}
 use Rattle.machine.specs.State.{Task, Slot, unused, used, slot_at, no_message}
-use Rattle.table.specs.Table.{window, message_in, task_in, held, slots_in}
+use Rattle.table.specs.Table.{window, message_in, task_in, held, slots_of_words}
 use Rattle.table.specs.Change.{task_or, task_at, Used, change_slot, change, opened}
 
-pub length_slots : (t : List ℕ) → length (slots_in t) ≡ 16
-unfolding slots_in
+pub length_slots : (t : List ℕ) → length (slots_of_words t) ≡ 16
+unfolding slots_of_words
 length_slots t = length_tabulate 16 (λ s. held (task_in (window t s)))
 
 -- a slot whose task has a kind is used

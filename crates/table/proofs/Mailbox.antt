@@ -13,7 +13,7 @@ use Rattle.planes.specs.Planes.{label_from}
 use Rattle.planes.proofs.Labels.{label_same}
 use Rattle.machine.specs.declared.Message.{Message}
 use Rattle.machine.specs.State.{with_mailbox, no_message, without_message}
-use Rattle.table.specs.Table.{window, plane_in, message_in, task_in, slots_in}
+use Rattle.table.specs.Table.{window, plane_in, message_in, task_in, slots_of_words}
 use Rattle.table.specs.Change.{task_at, Used, change, with_message, with_mail, opened}
 use Rattle.table.specs.Words.{SlotChanged, SlotStored, Planed, Mailed, With, Without}
 use Rattle.table.proofs.Window.{window_length}
@@ -67,19 +67,19 @@ mail_task w u i sender value h small fits q =
 -- ---- the slots
 
 -- a message written behind the last, and then its count
-pub append_slots : (t : List ℕ) (s : ℕ) → Used s (slots_in t) → (n : ℕ) (m : Message) (t₁ u : List ℕ) → n ≡ get_or (window t s) 12 0
-    → length (task_at (slots_in t) s).mailbox < 64 → SlotChanged s (With n m) t t₁ → SlotStored s (λ v. set v 12 (n + 1)) t₁ u
-    → slots_in u ≡ change s (with_message m) (slots_in t)
+pub append_slots : (t : List ℕ) (s : ℕ) → Used s (slots_of_words t) → (n : ℕ) (m : Message) (t₁ u : List ℕ) → n ≡ get_or (window t s) 12 0
+    → length (task_at (slots_of_words t) s).mailbox < 64 → SlotChanged s (With n m) t t₁ → SlotStored s (λ v. set v 12 (n + 1)) t₁ u
+    → slots_of_words u ≡ change s (with_message m) (slots_of_words t)
 append_slots t s here n m t₁ u count room p q =
     let read = mailbox_read t s here in
     frame_change t u s (used_slot t s here) (λ j l ne. q.other j l ne ∙ p.other j l ne) (with_message m) (λ k. refl)
     (ap task_in q.here ∙ append_task (window t s) (window t₁ s) (window_length t₁ s) n (omega arith) m (omega arith) p.here)
 
 -- a message gone, and then its count
-pub remove_slots : (t t₁ u : List ℕ) (s i n : ℕ) → i < length (task_at (slots_in t) s).mailbox → n ≡ length (task_at (slots_in t) s).mailbox → SlotChanged s (Without i n) t t₁
-    → SlotStored s (λ v. set v 12 (n - 1)) t₁ u → slots_in u ≡ change s (without_message i) (slots_in t)
+pub remove_slots : (t t₁ u : List ℕ) (s i n : ℕ) → i < length (task_at (slots_of_words t) s).mailbox → n ≡ length (task_at (slots_of_words t) s).mailbox → SlotChanged s (Without i n) t t₁
+    → SlotStored s (λ v. set v 12 (n - 1)) t₁ u → slots_of_words u ≡ change s (without_message i) (slots_of_words t)
 remove_slots t t₁ u s i n h count p q =
-    let here = mail_used (slots_in t) s i h in
+    let here = mail_used (slots_of_words t) s i h in
     let read = mailbox_read t s here in
     frame_change t u s (used_slot t s here) (λ j l ne. q.other j l ne ∙ p.other j l ne) (without_message i) (λ k. refl)
     (ap task_in q.here ∙ remove_task (window t s) (window t₁ s) (window_length t₁ s) n (omega arith) i (omega arith) p.here)
@@ -88,7 +88,7 @@ remove_slots t t₁ u s i n h count p q =
 
 -- the planes stored, and then the count
 pub open_slots : (t t₁ u : List ℕ) (s n : ℕ) (plane : ℕ → ℕ) → s < 16 → n ≤ 64 → SlotChanged s (Planed 4 (λ b x y. y ≡ plane b)) t t₁ → SlotStored s (λ v. set v 12 n) t₁ u
-    → slots_in u ≡ change s (with_mailbox (opened n (label_from 4 plane) (window t s))) (slots_in t)
+    → slots_of_words u ≡ change s (with_mailbox (opened n (label_from 4 plane) (window t s))) (slots_of_words t)
 unfolding opened message_in
 open_slots t t₁ u s n plane l many p q =
     let w = window t s in
@@ -101,10 +101,10 @@ open_slots t t₁ u s n plane l many p q =
     ∙ rw all (ap (λ (ms : List Message). with_mailbox ms (task_in w))
     (tabulate_same n (λ i. record { label = label_from 4 plane i; sender = (message_in w i).sender; value = (message_in w i).value }) (message_in w₁) each)))
 
-pub mail_slots : (t u : List ℕ) (s i sender value : ℕ) → i < length (task_at (slots_in t) s).mailbox → sender < 256 → value < 4294967296
-    → SlotChanged s (Mailed i (sender * 4294967296 + value)) t u → slots_in u ≡ change s (with_mail i sender value) (slots_in t)
+pub mail_slots : (t u : List ℕ) (s i sender value : ℕ) → i < length (task_at (slots_of_words t) s).mailbox → sender < 256 → value < 4294967296
+    → SlotChanged s (Mailed i (sender * 4294967296 + value)) t u → slots_of_words u ≡ change s (with_mail i sender value) (slots_of_words t)
 mail_slots t u s i sender value h small fits p =
-    let here = mail_used (slots_in t) s i h in
+    let here = mail_used (slots_of_words t) s i h in
     let read = mailbox_read t s here in
     frame_change t u s (used_slot t s here) p.other (with_mail i sender value) (λ k. refl)
     (mail_task (window t s) (window u s) i sender value (omega arith) small fits p.here)

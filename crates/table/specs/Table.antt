@@ -3,6 +3,7 @@ use Rattle.std.specs.Prelude.{ℕ, ◌+◌, ◌*◌, ◌/◌, ◌%◌, min, cond
 use Rattle.wire.specs.Lists.{tabulate}
 use Rattle.planes.specs.Planes.{label_from}
 use Rattle.machine.specs.declared.Message.{Message}
+use Rattle.table.specs.declared.Table.{Table}
 use Rattle.machine.specs.State.{Task, Slot, unused, used, State}
 
 -- ---- the layout of a slot's words: one for each field, a plane for each bit of the messages' labels, and a ring of messages
@@ -91,9 +92,12 @@ abbrev pub held : Task → Slot
 held t = cond (eqb t.kind 0) unused (used t)
 
 -- slots 0 to 15 in order
-unfoldable pub slots_in : List ℕ → List Slot
-slots_in t = tabulate 16 (λ s. held (task_in (window t s)))
+unfoldable pub slots_of_words : List ℕ → List Slot
+slots_of_words t = tabulate 16 (λ s. held (task_in (window t s)))
+
+abbrev pub slots_in : Table → List Slot
+slots_in t = slots_of_words t.words
 
 -- the tasks in the table, with a version, a program and a turn slot
-abbrev pub state_in : ℕ → List ℕ → ℕ → List ℕ → State
+abbrev pub state_in : ℕ → List ℕ → ℕ → Table → State
 state_in version program turn_slot t = record { version = version; program = program; turn_slot = turn_slot; slots = slots_in t }

@@ -1,16 +1,18 @@
 // The working storage of a call: sixteen slots of 84 words each, lent to the call and touched by slot and field only.
-// Nothing is tested here that a caller knows: that a slot is one of the sixteen or is used, a register one of the eight, a
+// Nothing is tested here that a caller knows: that a slot is used, a register one of the eight, a
 // message in the mailbox, and a label one of four bits.
 #![tactic(auto)]
 
-ghost use Rattle.std.specs.Prelude.{◌+◌, ◌*◌, ◌<◌, ◌≤◌, ◌%◌, ◌≡◌, length, get_or, set};
+ghost use Rattle.std.specs.Prelude.{◌+◌, ◌*◌, ◌<◌, ◌≤◌, ◌%◌, ◌≡◌, not, length, get_or, set, replicate};
 ghost use Rattle.label.specs.Label.{bit};
 ghost use Rattle.planes.specs.Planes.{label_from, plane_of};
 ghost use Rattle.machine.specs.Limits.{highest_label};
-ghost use Rattle.machine.specs.State.{unused, slot_at, register, with_label, with_spare, with_pc, with_register, with_mailbox, without_message};
+ghost use Rattle.machine.specs.State.{kind_number, unused, slot_at, has_live_task, is_unused, register, with_label, with_spare, with_pc, with_register, with_mailbox, without_message};
 ghost use Rattle.table.specs.Table.{start_word, ring_word, slot_words, mailbox_room, window, plane_in, ring_in, slots_in, held};
 ghost use Rattle.table.specs.Words.{SlotChanged, SlotStored, cleared, Planed, WithBit, WithoutBit, Moved, Mailed, down, up, With, Closed, Without};
 ghost use Rattle.table.specs.Change.{Used, task_at, message_at, change, slot_with_kind, with_message, with_mail, opened, new_task};
+
+use machine::{Kind, Message, SlotNumber};
 
 const SLOTS: usize = 16;
 
@@ -19,7 +21,11 @@ const SLOT_WORDS: usize = 84;
 // The words of the whole table.
 pub const WORDS: usize = SLOTS * SLOT_WORDS;
 
-pub type Table = [u64; WORDS];
+// The words of the sixteen slots.
+#[derive(Drop)]
+pub struct Table {
+    words: [u64; WORDS],
+}
 
 const MAILBOX_ROOM: usize = 64;
 
@@ -45,8 +51,6 @@ const PLANES: usize = 16;
 
 const RING: usize = 20;
 
-// ---- words
-
 // The word at an index. It takes a slice, because the length of a slice is known.
 fn fetch(t: &[u64], at: usize) -> u64
     requires { at < length t.now }
@@ -63,22 +67,6 @@ fn store(t: &mut [u64], at: usize, x: u64)
     t[at] = x;
 }
 
-// Word i of slot s. Words i of all slots stand side by side, so a field of a slot is found without a multiplication.
-fn word(t: &Table, s: usize, i: usize) -> u64
-    requires { (s < 16) × (i < slot_words) }
-    ensures { result ≡ get_or (window t.now s) i 0 }
-{
-    fetch(t, SLOTS * i + s)
-}
-
-// Word i of slot s gets x.
-fn put(t: &mut Table, s: usize, i: usize, x: u64)
-    requires { (s < 16) × (i < slot_words) }
-    ensures { SlotStored s (λ w. set w i x) t.old t.new }
-{
-    store(t, SLOTS * i + s, x);
-}
-
 // The low byte of a word.
 fn byte(x: u64) -> u8
     ensures { result ≡ x % 256 }
@@ -93,360 +81,403 @@ fn four(x: u64) -> u32
     (x % 4294967296) as u32
 }
 
-// ---- reading
-
-// The kind of the task in slot s, 0 where slot s is unused.
-pub fn kind(t: &Table, s: usize) -> u8
-    requires { s < 16 }
-    ensures { result ≡ (task_at (slots_in t.now) s).kind }
-{
-    byte(word(t, s, KIND))
-}
-
-// The label of the task in slot s.
-pub fn label(t: &Table, s: usize) -> u8
-    requires { Used s (slots_in t.now) }
-    ensures { result ≡ (task_at (slots_in t.now) s).label }
-{
-    byte(word(t, s, LABEL))
-}
-
-// The clearance of the task in slot s.
-pub fn clearance(t: &Table, s: usize) -> u8
-    requires { Used s (slots_in t.now) }
-    ensures { result ≡ (task_at (slots_in t.now) s).clearance }
-{
-    byte(word(t, s, CLEARANCE))
-}
-
-// The spare slots that the task in slot s has a right to.
-pub fn spare(t: &Table, s: usize) -> u8
-    requires { Used s (slots_in t.now) }
-    ensures { result ≡ (task_at (slots_in t.now) s).spare }
-{
-    byte(word(t, s, SPARE))
-}
-
-// The index of the next instruction of the task in slot s.
-pub fn pc(t: &Table, s: usize) -> u32
-    requires { Used s (slots_in t.now) }
-    ensures { result ≡ (task_at (slots_in t.now) s).pc }
-{
-    four(word(t, s, PC))
-}
-
-// Register a of the task in slot s.
-pub fn register(t: &Table, s: usize, a: usize) -> u32
-    requires { Used s (slots_in t.now) × (a < 8) }
-    ensures { result ≡ register (task_at (slots_in t.now) s) a }
-{
-    four(word(t, s, REGISTERS + a))
-}
-
-// How many messages are in the mailbox of the task in slot s.
-pub fn mailbox_length(t: &Table, s: usize) -> usize
-    requires { Used s (slots_in t.now) }
-    ensures { (result ≡ length (task_at (slots_in t.now) s).mailbox) × (result ≤ mailbox_room) }
-{
-    let n = word(t, s, COUNT) as usize;
-    if n < MAILBOX_ROOM { n } else { MAILBOX_ROOM }
-}
-
-// Where in the ring the oldest message of slot s lies.
-fn ring_start(t: &Table, s: usize) -> usize
-    requires { s < 16 }
-    ensures { result ≡ get_or (window t.now s) start_word 0 % mailbox_room }
-{
-    (word(t, s, START) % 64) as usize
-}
-
-// The word of message i in slot s.
-fn mail(t: &Table, s: usize, i: usize) -> u64
-    requires { (s < 16) × (i < mailbox_room) }
-    ensures { result ≡ ring_in (get_or (window t.now s) start_word 0) (window t.now s) i }
-{
-    word(t, s, RING + (ring_start(t, s) + i) % MAILBOX_ROOM)
-}
-
-// Plane b of slot s: its bit i is bit b of the label of message i.
-pub fn plane(t: &Table, s: usize, b: usize) -> u64
-    requires { (s < 16) × (b < 4) }
-    ensures { result ≡ plane_in (window t.now s) b }
-{
-    word(t, s, PLANES + b)
-}
-
-// Bit b of the label of message i in slot s.
-fn label_bit(t: &Table, s: usize, b: usize, i: usize) -> u8
-    requires { (s < 16) × (b < 4) × (i < mailbox_room) }
-    ensures { (result ≡ bit i (plane_in (window t.now s) b)) × (result < 2) }
-{
-    byte((plane(t, s, b) >> i) % 2)
-}
-
-// The label of message i in slot s, the oldest first.
-pub fn message_label(t: &Table, s: usize, i: usize) -> u8
-    requires { i < length (task_at (slots_in t.now) s).mailbox }
-    ensures { result ≡ (message_at (slots_in t.now) s i).label }
-{
-    let high = label_bit(t, s, 2, i) + 2 * label_bit(t, s, 3, i);
-    label_bit(t, s, 0, i) + 2 * (label_bit(t, s, 1, i) + 2 * high)
-}
-
-// The slot that sent message i in slot s.
-pub fn message_sender(t: &Table, s: usize, i: usize) -> u8
-    requires { i < length (task_at (slots_in t.now) s).mailbox }
-    ensures { result ≡ (message_at (slots_in t.now) s i).sender }
-{
-    byte(mail(t, s, i) / 4294967296)
-}
-
-// The value of message i in slot s.
-pub fn message_value(t: &Table, s: usize, i: usize) -> u32
-    requires { i < length (task_at (slots_in t.now) s).mailbox }
-    ensures { result ≡ (message_at (slots_in t.now) s i).value }
-{
-    four(mail(t, s, i))
-}
-
-// ---- changing a field
-
-// The task in slot s gets kind x; kind 0 takes it away. The slot has to be used: in an unused one a kind would be a task.
-pub fn set_kind(t: &mut Table, s: usize, x: u8)
-    requires { Used s (slots_in t.old) }
-    ensures { slots_in t.new ≡ set (slots_in t.old) s (slot_with_kind x (slot_at (slots_in t.old) s)) }
-{
-    put(t, s, KIND, x as u64);
-}
-
-// The task in slot s gets label x.
-pub fn set_label(t: &mut Table, s: usize, x: u8)
-    requires { s < 16 }
-    ensures { slots_in t.new ≡ change s (with_label x) (slots_in t.old) }
-{
-    put(t, s, LABEL, x as u64);
-}
-
-// The task in slot s gets a right to x spare slots.
-pub fn set_spare(t: &mut Table, s: usize, x: u8)
-    requires { s < 16 }
-    ensures { slots_in t.new ≡ change s (with_spare x) (slots_in t.old) }
-{
-    put(t, s, SPARE, x as u64);
-}
-
-// The next instruction of the task in slot s is that at index x.
-pub fn set_pc(t: &mut Table, s: usize, x: u32)
-    requires { s < 16 }
-    ensures { slots_in t.new ≡ change s (with_pc x) (slots_in t.old) }
-{
-    put(t, s, PC, x as u64);
-}
-
-// Register a of the task in slot s gets x.
-pub fn set_register(t: &mut Table, s: usize, a: usize, x: u32)
-    requires { (s < 16) × (a < 8) }
-    ensures { slots_in t.new ≡ change s (with_register a x) (slots_in t.old) }
-{
-    put(t, s, REGISTERS + a, x as u64);
-}
-
-// ---- changing the mailbox
-
-// Each plane of slot s gets the label's bit as bit n.
-fn mark(t: &mut Table, s: usize, n: usize, label: u8)
-    requires { (s < 16) × (n < mailbox_room) }
-    ensures { SlotChanged s (Planed 4 (WithBit n label)) t.old t.new }
-{
-    let mut b: usize = 0;
-    while b < 4 {
-        let x = planes::with_bit(plane(t, s, b), n, label, b);
-        put(t, s, PLANES + b, x);
-        b += 1;
+impl Table {
+    // No tasks.
+    pub fn new() -> Table
+        ensures { slots_in result ≡ replicate 16 unused }
+    {
+        Table { words: [0; WORDS] }
     }
-}
 
-// The word of message i, there or not, gets a sender and a value.
-fn put_mail(t: &mut Table, s: usize, i: usize, sender: u8, value: u32)
-    requires { (s < 16) × (i < mailbox_room) }
-    ensures { SlotChanged s (Mailed i (sender * 4294967296 + value)) t.old t.new }
-{
-    let at = (ring_start(t, s) + i) % MAILBOX_ROOM;
-    put(
-        t,
-        s,
-        RING + at,
-        (sender as u64) * 4294967296 + (value as u64),
-    );
-}
+    // ---- words
 
-// Message n is written behind those before it; the count is not.
-fn write_message(t: &mut Table, s: usize, n: usize, label: u8, sender: u8, value: u32)
-    requires { (s < 16) × (n < mailbox_room) × (label ≤ highest_label) }
-    ensures { SlotChanged s (With n (record { label = label; sender = sender; value = value })) t.old t.new }
-{
-    put_mail(t, s, n, sender, value);
-    mark(t, s, n, label);
-}
-
-// The message joins the end of a mailbox that has room for it.
-pub fn append(t: &mut Table, s: usize, label: u8, sender: u8, value: u32)
-    requires { Used s (slots_in t.old) × (length (task_at (slots_in t.old) s).mailbox < mailbox_room) × (label ≤ highest_label) }
-    ensures { slots_in t.new ≡ change s (with_message (record { label = label; sender = sender; value = value })) (slots_in t.old) }
-{
-    let n = word(t, s, COUNT) as usize;
-    write_message(t, s, n, label, sender, value);
-    put(t, s, COUNT, (n + 1) as u64);
-}
-
-// Bit k of each plane of slot s goes.
-fn unmark(t: &mut Table, s: usize, k: usize)
-    requires { (s < 16) × (k < mailbox_room) }
-    ensures { SlotChanged s (Planed 4 (WithoutBit k)) t.old t.new }
-{
-    let mut b: usize = 0;
-    while b < 4 {
-        let x = planes::without_bit(plane(t, s, b), k);
-        put(t, s, PLANES + b, x);
-        b += 1;
+    // Word i of the slot. Words i of all slots stand side by side, so a field of a slot is found without a multiplication.
+    fn word(&self, slot: SlotNumber, i: usize) -> u64
+        requires { i < slot_words }
+        ensures { result ≡ get_or (window self.now.words slot.number) i 0 }
+    {
+        fetch(&self.words, SLOTS * i + slot.number)
     }
-}
 
-// The word of message `from` is written over that of message `to`, both counted from a start of the ring.
-fn move_mail(t: &mut Table, s: usize, start: usize, from: usize, to: usize)
-    requires { (s < 16) × (start < mailbox_room) × (from < mailbox_room) × (to < mailbox_room) }
-    ensures { SlotStored s (λ w. set w (ring_word + (start + to) % mailbox_room) (ring_in start w from)) t.old t.new }
-{
-    let x = word(t, s, RING + (start + from) % MAILBOX_ROOM);
-    put(t, s, RING + (start + to) % MAILBOX_ROOM, x);
-}
-
-// The messages behind message i, of n, move down by one.
-fn move_down(t: &mut Table, s: usize, start: usize, i: usize, n: usize)
-    requires { (s < 16) × (start < mailbox_room) × (i < n) × (n ≤ mailbox_room) }
-    ensures { SlotChanged s (Moved start (down i n)) t.old t.new }
-{
-    let mut k = i + 1;
-    while k < n {
-        move_mail(t, s, start, k, k - 1);
-        k += 1;
+    // Word i of the slot gets x.
+    fn put(&mut self, slot: SlotNumber, i: usize, x: u64)
+        requires { i < slot_words }
+        ensures { SlotStored slot.number (λ w. set w i x) self.old.words self.new.words }
+    {
+        store(&mut self.words, SLOTS * i + slot.number, x);
     }
-}
 
-// The messages ahead of message i move up by one.
-fn move_up(t: &mut Table, s: usize, start: usize, i: usize)
-    requires { (s < 16) × (start < mailbox_room) × (i < mailbox_room) }
-    ensures { SlotChanged s (Moved start (up i 0)) t.old t.new }
-{
-    let mut k = i;
-    while k > 0 {
-        move_mail(t, s, start, k - 1, k);
-        k -= 1;
+    // ---- reading
+
+    // The kind of the task in the slot, 0 where the slot is unused.
+    pub fn kind(&self, slot: SlotNumber) -> u8
+        ensures { result ≡ (task_at (slots_in self.now) slot.number).kind }
+    {
+        byte(self.word(slot, KIND))
     }
-}
 
-// The word of message i, of n, goes from the ring: the shorter side moves.
-fn close_gap(t: &mut Table, s: usize, i: usize, n: usize)
-    requires { (s < 16) × (i < n) × (n ≤ mailbox_room) }
-    ensures { SlotChanged s (Closed i n) t.old t.new }
-{
-    let start = ring_start(t, s);
-    if i + i < n {
-        move_up(t, s, start, i);
-        put(t, s, START, ((start + 1) % MAILBOX_ROOM) as u64);
-    } else {
-        move_down(t, s, start, i, n);
+    // The slot is used.
+    pub fn is_used(&self, slot: SlotNumber) -> bool
+        ensures { result ≡ not (is_unused (slot_at (slots_in self.now) slot.number)) }
+    {
+        self.kind(slot) != 0
     }
-}
 
-// The oldest message goes: the ring starts behind it.
-fn drop_first(t: &mut Table, s: usize, n: usize)
-    requires { (s < 16) × (0 < n) × (n ≤ mailbox_room) }
-    ensures { SlotChanged s (Without 0 n) t.old t.new }
-{
-    let start = ring_start(t, s);
-    put(t, s, START, ((start + 1) % MAILBOX_ROOM) as u64);
-    unmark(t, s, 0);
-}
-
-// Message i of n goes; the count is kept. The oldest has a way of its own, in which each plane is one shift.
-fn drop_message(t: &mut Table, s: usize, i: usize, n: usize)
-    requires { (s < 16) × (i < n) × (n ≤ mailbox_room) }
-    ensures { SlotChanged s (Without i n) t.old t.new }
-{
-    if i == 0 {
-        drop_first(t, s, n);
-    } else {
-        close_gap(t, s, i, n);
-        unmark(t, s, i);
+    // The slot holds a live task.
+    pub fn is_live(&self, slot: SlotNumber) -> bool
+        ensures { result ≡ has_live_task (slot_at (slots_in self.now) slot.number) }
+    {
+        self.kind(slot) == Kind::Live as u8
     }
-}
 
-// Message i goes.
-pub fn remove(t: &mut Table, s: usize, i: usize)
-    requires { i < length (task_at (slots_in t.old) s).mailbox }
-    ensures { slots_in t.new ≡ change s (without_message i) (slots_in t.old) }
-{
-    let n = mailbox_length(t, s);
-    drop_message(t, s, i, n);
-    put(t, s, COUNT, (n - 1) as u64);
-}
-
-// ---- a whole mailbox
-
-// The mailbox of slot s has n messages with these labels, in place of what it had. Their senders and values are what the ring holds,
-// until `set_mail` gives each its own.
-pub fn open_mailbox(t: &mut Table, s: usize, n: usize, labels: planes::LabelPlanes)
-    requires { (s < 16) × (n ≤ mailbox_room) }
-    ensures { slots_in t.new
-        ≡ change s (with_mailbox (opened n (label_from 4 (plane_of labels)) (window t.old s))) (slots_in t.old) }
-{
-    put(t, s, PLANES, labels.first);
-    put(t, s, PLANES + 1, labels.second);
-    put(t, s, PLANES + 2, labels.third);
-    put(t, s, PLANES + 3, labels.fourth);
-    put(t, s, COUNT, n as u64);
-}
-
-// Message i gets a sender and a value.
-pub fn set_mail(t: &mut Table, s: usize, i: usize, sender: u8, value: u32)
-    requires { i < length (task_at (slots_in t.old) s).mailbox }
-    ensures { slots_in t.new ≡ change s (with_mail i sender value) (slots_in t.old) }
-{
-    put_mail(t, s, i, sender, value);
-}
-
-// ---- changing a slot
-
-// Slot s becomes unused. Its other words stay, and nothing reads them.
-pub fn clear(t: &mut Table, s: usize)
-    requires { s < 16 }
-    ensures { slots_in t.new ≡ set (slots_in t.old) s unused }
-{
-    put(t, s, KIND, 0);
-}
-
-// Every word of slot s ahead of its planes becomes 0.
-fn clear_fields(t: &mut Table, s: usize)
-    requires { s < 16 }
-    ensures { SlotStored s (cleared 16) t.old t.new }
-{
-    let mut i = 0;
-    while i < PLANES {
-        put(t, s, i, 0);
-        i += 1;
+    // The label of the task in the slot.
+    pub fn label(&self, slot: SlotNumber) -> u8
+        requires { Used slot.number (slots_in self.now) }
+        ensures { result ≡ (task_at (slots_in self.now) slot.number).label }
+    {
+        byte(self.word(slot, LABEL))
     }
-}
 
-// Slot s holds a new task in place of what it held, with registers 0 and no messages; kind 0 leaves it unused.
-pub fn put_task(t: &mut Table, s: usize, kind: u8, label: u8, clearance: u8, spare: u8, pc: u32)
-    requires { s < 16 }
-    ensures { slots_in t.new ≡ set (slots_in t.old) s (held (new_task kind label clearance spare pc)) }
-{
-    clear_fields(t, s);
-    put(t, s, KIND, kind as u64);
-    put(t, s, LABEL, label as u64);
-    put(t, s, CLEARANCE, clearance as u64);
-    put(t, s, SPARE, spare as u64);
-    put(t, s, PC, pc as u64);
+    // The clearance of the task in the slot.
+    pub fn clearance(&self, slot: SlotNumber) -> u8
+        requires { Used slot.number (slots_in self.now) }
+        ensures { result ≡ (task_at (slots_in self.now) slot.number).clearance }
+    {
+        byte(self.word(slot, CLEARANCE))
+    }
+
+    // The spare slots that the task in the slot has a right to.
+    pub fn spare(&self, slot: SlotNumber) -> u8
+        requires { Used slot.number (slots_in self.now) }
+        ensures { result ≡ (task_at (slots_in self.now) slot.number).spare }
+    {
+        byte(self.word(slot, SPARE))
+    }
+
+    // The index of the next instruction of the task in the slot.
+    pub fn pc(&self, slot: SlotNumber) -> u32
+        requires { Used slot.number (slots_in self.now) }
+        ensures { result ≡ (task_at (slots_in self.now) slot.number).pc }
+    {
+        four(self.word(slot, PC))
+    }
+
+    // Register a of the task in the slot.
+    pub fn register(&self, slot: SlotNumber, a: usize) -> u32
+        requires { Used slot.number (slots_in self.now) × (a < 8) }
+        ensures { result ≡ register (task_at (slots_in self.now) slot.number) a }
+    {
+        four(self.word(slot, REGISTERS + a))
+    }
+
+    // How many messages are in the mailbox of the task in the slot.
+    pub fn mailbox_length(&self, slot: SlotNumber) -> usize
+        requires { Used slot.number (slots_in self.now) }
+        ensures { (result ≡ length (task_at (slots_in self.now) slot.number).mailbox) × (result ≤ mailbox_room) }
+    {
+        let n = self.word(slot, COUNT) as usize;
+        if n < MAILBOX_ROOM { n } else { MAILBOX_ROOM }
+    }
+
+    // Where in the ring the oldest message of the slot lies.
+    fn ring_start(&self, slot: SlotNumber) -> usize
+        ensures { result ≡ get_or (window self.now.words slot.number) start_word 0 % mailbox_room }
+    {
+        (self.word(slot, START) % 64) as usize
+    }
+
+    // The word of message i in the slot.
+    fn mail(&self, slot: SlotNumber, i: usize) -> u64
+        requires { i < mailbox_room }
+        ensures { result ≡ ring_in (get_or (window self.now.words slot.number) start_word 0) (window self.now.words slot.number) i }
+    {
+        self.word(slot, RING + (self.ring_start(slot) + i) % MAILBOX_ROOM)
+    }
+
+    // Plane b of the slot: its bit i is bit b of the label of message i.
+    pub fn plane(&self, slot: SlotNumber, b: usize) -> u64
+        requires { b < 4 }
+        ensures { result ≡ plane_in (window self.now.words slot.number) b }
+    {
+        self.word(slot, PLANES + b)
+    }
+
+    // Bit b of the label of message i in the slot.
+    fn label_bit(&self, slot: SlotNumber, b: usize, i: usize) -> u8
+        requires { (b < 4) × (i < mailbox_room) }
+        ensures { (result ≡ bit i (plane_in (window self.now.words slot.number) b)) × (result < 2) }
+    {
+        byte((self.plane(slot, b) >> i) % 2)
+    }
+
+    // The label of message i in the slot, the oldest first.
+    pub fn message_label(&self, slot: SlotNumber, i: usize) -> u8
+        requires { i < length (task_at (slots_in self.now) slot.number).mailbox }
+        ensures { result ≡ (message_at (slots_in self.now) slot.number i).label }
+    {
+        let high = self.label_bit(slot, 2, i) + 2 * self.label_bit(slot, 3, i);
+        self.label_bit(slot, 0, i) + 2 * (self.label_bit(slot, 1, i) + 2 * high)
+    }
+
+    // The slot that sent message i in the slot.
+    pub fn message_sender(&self, slot: SlotNumber, i: usize) -> u8
+        requires { i < length (task_at (slots_in self.now) slot.number).mailbox }
+        ensures { result ≡ (message_at (slots_in self.now) slot.number i).sender }
+    {
+        byte(self.mail(slot, i) / 4294967296)
+    }
+
+    // The value of message i in the slot.
+    pub fn message_value(&self, slot: SlotNumber, i: usize) -> u32
+        requires { i < length (task_at (slots_in self.now) slot.number).mailbox }
+        ensures { result ≡ (message_at (slots_in self.now) slot.number i).value }
+    {
+        four(self.mail(slot, i))
+    }
+
+    // ---- changing a field
+
+    // The task in the slot gets another kind. The slot has to be used: in an unused one a kind would be a task.
+    pub fn set_kind(&mut self, slot: SlotNumber, kind: Kind)
+        requires { Used slot.number (slots_in self.old) }
+        ensures { slots_in self.new
+            ≡ set (slots_in self.old) slot.number (slot_with_kind (kind_number kind) (slot_at (slots_in self.old) slot.number)) }
+    {
+        self.put(slot, KIND, kind as u64);
+    }
+
+    // The task in the slot gets label x.
+    pub fn set_label(&mut self, slot: SlotNumber, x: u8)
+        ensures { slots_in self.new ≡ change slot.number (with_label x) (slots_in self.old) }
+    {
+        self.put(slot, LABEL, x as u64);
+    }
+
+    // The task in the slot gets a right to x spare slots.
+    pub fn set_spare(&mut self, slot: SlotNumber, x: u8)
+        ensures { slots_in self.new ≡ change slot.number (with_spare x) (slots_in self.old) }
+    {
+        self.put(slot, SPARE, x as u64);
+    }
+
+    // The next instruction of the task in the slot is that at index x.
+    pub fn set_pc(&mut self, slot: SlotNumber, x: u32)
+        ensures { slots_in self.new ≡ change slot.number (with_pc x) (slots_in self.old) }
+    {
+        self.put(slot, PC, x as u64);
+    }
+
+    // Register a of the task in the slot gets x.
+    pub fn set_register(&mut self, slot: SlotNumber, a: usize, x: u32)
+        requires { a < 8 }
+        ensures { slots_in self.new ≡ change slot.number (with_register a x) (slots_in self.old) }
+    {
+        self.put(slot, REGISTERS + a, x as u64);
+    }
+
+    // ---- changing the mailbox
+
+    // Each plane of the slot gets the label's bit as bit n.
+    fn mark(&mut self, slot: SlotNumber, n: usize, label: u8)
+        requires { n < mailbox_room }
+        ensures { SlotChanged slot.number (Planed 4 (WithBit n label)) self.old.words self.new.words }
+    {
+        let mut b: usize = 0;
+        while b < 4 {
+            let x = planes::with_bit(self.plane(slot, b), n, label, b);
+            self.put(slot, PLANES + b, x);
+            b += 1;
+        }
+    }
+
+    // The word of message i, there or not, gets a sender and a value.
+    fn put_mail(&mut self, slot: SlotNumber, i: usize, sender: u8, value: u32)
+        requires { i < mailbox_room }
+        ensures { SlotChanged slot.number (Mailed i (sender * 4294967296 + value)) self.old.words self.new.words }
+    {
+        let at = (self.ring_start(slot) + i) % MAILBOX_ROOM;
+        self.put(
+            slot,
+            RING + at,
+            (sender as u64) * 4294967296 + (value as u64),
+        );
+    }
+
+    // Message n is written behind those before it; the count is not.
+    fn write_message(&mut self, slot: SlotNumber, n: usize, message: Message)
+        requires { (n < mailbox_room) × (message.label ≤ highest_label) }
+        ensures { SlotChanged slot.number (With n message) self.old.words self.new.words }
+    {
+        self.put_mail(slot, n, message.sender, message.value);
+        self.mark(slot, n, message.label);
+    }
+
+    // The message joins the end of a mailbox that has room for it.
+    pub fn append(&mut self, slot: SlotNumber, message: Message)
+        requires { Used slot.number (slots_in self.old)
+            × (length (task_at (slots_in self.old) slot.number).mailbox < mailbox_room)
+            × (message.label ≤ highest_label) }
+        ensures { slots_in self.new ≡ change slot.number (with_message message) (slots_in self.old) }
+    {
+        let n = self.word(slot, COUNT) as usize;
+        self.write_message(slot, n, message);
+        self.put(slot, COUNT, (n + 1) as u64);
+    }
+
+    // Bit k of each plane of the slot goes.
+    fn unmark(&mut self, slot: SlotNumber, k: usize)
+        requires { k < mailbox_room }
+        ensures { SlotChanged slot.number (Planed 4 (WithoutBit k)) self.old.words self.new.words }
+    {
+        let mut b: usize = 0;
+        while b < 4 {
+            let x = planes::without_bit(self.plane(slot, b), k);
+            self.put(slot, PLANES + b, x);
+            b += 1;
+        }
+    }
+
+    // The word of message `from` is written over that of message `to`, both counted from a start of the ring.
+    fn move_mail(&mut self, slot: SlotNumber, start: usize, from: usize, to: usize)
+        requires { (start < mailbox_room) × (from < mailbox_room) × (to < mailbox_room) }
+        ensures { SlotStored slot.number (λ w. set w (ring_word + (start + to) % mailbox_room) (ring_in start w from)) self.old.words self.new.words }
+    {
+        let x = self.word(slot, RING + (start + from) % MAILBOX_ROOM);
+        self.put(slot, RING + (start + to) % MAILBOX_ROOM, x);
+    }
+
+    // The messages behind message i, of n, move down by one.
+    fn move_down(&mut self, slot: SlotNumber, start: usize, i: usize, n: usize)
+        requires { (start < mailbox_room) × (i < n) × (n ≤ mailbox_room) }
+        ensures { SlotChanged slot.number (Moved start (down i n)) self.old.words self.new.words }
+    {
+        let mut k = i + 1;
+        while k < n {
+            self.move_mail(slot, start, k, k - 1);
+            k += 1;
+        }
+    }
+
+    // The messages ahead of message i move up by one.
+    fn move_up(&mut self, slot: SlotNumber, start: usize, i: usize)
+        requires { (start < mailbox_room) × (i < mailbox_room) }
+        ensures { SlotChanged slot.number (Moved start (up i 0)) self.old.words self.new.words }
+    {
+        let mut k = i;
+        while k > 0 {
+            self.move_mail(slot, start, k - 1, k);
+            k -= 1;
+        }
+    }
+
+    // The word of message i, of n, goes from the ring: the shorter side moves.
+    fn close_gap(&mut self, slot: SlotNumber, i: usize, n: usize)
+        requires { (i < n) × (n ≤ mailbox_room) }
+        ensures { SlotChanged slot.number (Closed i n) self.old.words self.new.words }
+    {
+        let start = self.ring_start(slot);
+        if i + i < n {
+            self.move_up(slot, start, i);
+            self.put(slot, START, ((start + 1) % MAILBOX_ROOM) as u64);
+        } else {
+            self.move_down(slot, start, i, n);
+        }
+    }
+
+    // The oldest message goes: the ring starts behind it.
+    fn drop_first(&mut self, slot: SlotNumber, n: usize)
+        requires { (0 < n) × (n ≤ mailbox_room) }
+        ensures { SlotChanged slot.number (Without 0 n) self.old.words self.new.words }
+    {
+        let start = self.ring_start(slot);
+        self.put(slot, START, ((start + 1) % MAILBOX_ROOM) as u64);
+        self.unmark(slot, 0);
+    }
+
+    // Message i of n goes; the count is kept. The oldest has a way of its own, in which each plane is one shift.
+    fn drop_message(&mut self, slot: SlotNumber, i: usize, n: usize)
+        requires { (i < n) × (n ≤ mailbox_room) }
+        ensures { SlotChanged slot.number (Without i n) self.old.words self.new.words }
+    {
+        if i == 0 {
+            self.drop_first(slot, n);
+        } else {
+            self.close_gap(slot, i, n);
+            self.unmark(slot, i);
+        }
+    }
+
+    // Message i goes.
+    pub fn remove(&mut self, slot: SlotNumber, i: usize)
+        requires { i < length (task_at (slots_in self.old) slot.number).mailbox }
+        ensures { slots_in self.new ≡ change slot.number (without_message i) (slots_in self.old) }
+    {
+        let n = self.mailbox_length(slot);
+        self.drop_message(slot, i, n);
+        self.put(slot, COUNT, (n - 1) as u64);
+    }
+
+    // ---- a whole mailbox
+
+    // The mailbox of the slot has n messages with these labels, in place of what it had. Their senders and values are what the ring holds,
+    // until `set_mail` gives each its own.
+    pub fn open_mailbox(&mut self, slot: SlotNumber, n: usize, labels: planes::LabelPlanes)
+        requires { n ≤ mailbox_room }
+        ensures { slots_in self.new
+            ≡ change slot.number (with_mailbox (opened n (label_from 4 (plane_of labels)) (window self.old.words slot.number))) (slots_in self.old) }
+    {
+        self.put(slot, PLANES, labels.first);
+        self.put(slot, PLANES + 1, labels.second);
+        self.put(slot, PLANES + 2, labels.third);
+        self.put(slot, PLANES + 3, labels.fourth);
+        self.put(slot, COUNT, n as u64);
+    }
+
+    // Message i gets a sender and a value.
+    pub fn set_mail(&mut self, slot: SlotNumber, i: usize, sender: u8, value: u32)
+        requires { i < length (task_at (slots_in self.old) slot.number).mailbox }
+        ensures { slots_in self.new ≡ change slot.number (with_mail i sender value) (slots_in self.old) }
+    {
+        self.put_mail(slot, i, sender, value);
+    }
+
+    // ---- changing a slot
+
+    // The slot becomes unused. Its other words stay, and nothing reads them.
+    pub fn clear(&mut self, slot: SlotNumber)
+        ensures { slots_in self.new ≡ set (slots_in self.old) slot.number unused }
+    {
+        self.put(slot, KIND, 0);
+    }
+
+    // Every word of the slot ahead of its planes becomes 0.
+    fn clear_fields(&mut self, slot: SlotNumber)
+        ensures { SlotStored slot.number (cleared 16) self.old.words self.new.words }
+    {
+        let mut i = 0;
+        while i < PLANES {
+            self.put(slot, i, 0);
+            i += 1;
+        }
+    }
+
+    // The slot holds a new task in place of what it held, with registers 0 and no messages; kind 0 leaves it unused.
+    pub fn put_task(
+        &mut self,
+        slot: SlotNumber,
+        kind: u8,
+        label: u8,
+        clearance: u8,
+        spare: u8,
+        pc: u32,
+    )
+        ensures { slots_in self.new ≡ set (slots_in self.old) slot.number (held (new_task kind label clearance spare pc)) }
+    {
+        self.clear_fields(slot);
+        self.put(slot, KIND, kind as u64);
+        self.put(slot, LABEL, label as u64);
+        self.put(slot, CLEARANCE, clearance as u64);
+        self.put(slot, SPARE, spare as u64);
+        self.put(slot, PC, pc as u64);
+    }
 }
