@@ -98,3 +98,6 @@ module _ (b : List ℕ) (j label sender : ℕ) (l : label ≡ get_or b (6 * j) 0
 
   pub message_out_of_range : (k : ℕ) → j < k → (leb label 15 && leb sender highest_sender) ≡ false → mail_in_range (messages k b) ≡ false
   message_out_of_range k h r = rw (decode_at 6 message_of k j b h) (mail_out_of_range (messages j b) (message_of (drop (6 * j) b)) (range_is ∙ r) _)
+
+-- the reading: no message read, one more, one that is refused, all of them
+pub ruleset by_message = (counted_none, message_counted, message_fifth, message_out_of_range, counted_mail)

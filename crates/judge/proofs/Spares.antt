@@ -11,7 +11,7 @@ use borrow.Author.Tests.{leb-true, le-leb}
 use lib.Dec.{leb, eqb, eqb-suc-zero}
 use lib.ListN.{length, get_or, get_or-eq_default}
 use Rattle.wire.specs.Lists.{each}
-use Rattle.wire.proofs.Lists.{split, each_intro, each_at}
+use Rattle.wire.proofs.Lists.{split, each_intro, each_at, each_none, each_more, each_fails}
 use Rattle.machine.specs.State.{Slot, unused, used, slot_at, is_unused, spare_of}
 use Rattle.machine.specs.Valid.{spares_unused}
 use Rattle.machine.proofs.Rules.{SparesFree, spares_free, spares_test}
@@ -19,7 +19,8 @@ use Rattle.image.specs.Record.{slot_of}
 use Rattle.image.specs.Image.{record_of, skip, slots_of}
 use Rattle.image.specs.Inner.{clearance_width}
 use Rattle.image.proofs.Offsets.{task_at_lem}
-use Rattle.image.proofs.Slots.{slot_at_lem}
+use Rattle.image.proofs.Slots.{slot_at_lem, length_slots_of}
+use Rattle.image.proofs.Walk.{skip_none, skip_next}
 
 module _ (ss : List Slot) where
   -- the first slot above the first s slots and their spares
@@ -102,3 +103,6 @@ module _ (v : ℕ) where
 
     pub free_at : free_from (slots_of v 16 b) (s + 1) ≡ max (free_from (slots_of v 16 b) s) (s + get_or (record_of (skip s b)) (2 + clearance_width v) 0 + 1)
     free_at = free_next (slots_of v 16 b) s ∙ rw (slot_at_lem v 16 s b h, spare_byte)
+
+-- the pass: no slot seen, one more, one that is not clear, all sixteen
+pub ruleset by_slot = (skip_none, skip_next, free_none, free_at, each_none, each_more, each_fails, clear_at, spares_clear, length_slots_of)

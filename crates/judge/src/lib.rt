@@ -1,7 +1,7 @@
 // Why an image is refused, and what is read of an accepted one alone: each slot's record as the part that holds it.
 #![tactic(auto)]
 
-ghost use Rattle.std.specs.Prelude.{◌<◌, max, ◌≡◌};
+ghost use Rattle.std.specs.Prelude.{◌≡◌};
 ghost use Rattle.wire.specs.Slices.{offset_by};
 ghost use Rattle.instruction.specs.Program.{count};
 ghost use Rattle.machine.specs.Limits.{highest_kind};
@@ -23,7 +23,7 @@ use refusal::Refusal;
 fn check_version(image: &[u8]) -> Result<(), Refusal>
     ensures { number result ≡ version_number image.now }
 {
-    if image.len() < 1 {
+    if image.is_empty() {
         return Err(Refusal::Short);
     }
     let version = image::version(image);
@@ -79,6 +79,7 @@ fn check_turn_slot(image: &[u8]) -> Result<(), Refusal>
 }
 
 // 0, or that of a task and k messages, k at most 64: 37 + 6 × k in version 1, 38 + 6 × k in version 2.
+#[tactic(auto, using(std::proofs::lemmas::Bool::Decides::nat_tests, image::proofs::Offsets::task_size_lem), unfolding(image::specs::Refusal::is_record_length))]
 fn is_record_length(version: u8, l: usize) -> bool
     ensures { result ≡ is_record_length version l }
 {
@@ -91,6 +92,7 @@ fn is_record_length(version: u8, l: usize) -> bool
 }
 
 // The highest kind in an image of this version.
+#[tactic(auto, using(std::proofs::lemmas::Bool::Decides::nat_tests))]
 fn highest_kind(version: u8) -> u8
     ensures { result ≡ highest_kind version }
 {
@@ -99,6 +101,7 @@ fn highest_kind(version: u8) -> u8
 
 // Whether the fields ahead of the registers are in range and the label within the clearance, in a slot of an image of this version
 // with n instructions.
+#[tactic(auto, using(image::proofs::Offsets::task_at_lem))]
 fn fields_in_range(version: u8, task: &[u8], slot: SlotNumber, n: usize) -> bool
     ensures { result ≡ fields_in_range version slot.number n (task_of version task.now) }
 {
@@ -118,21 +121,20 @@ fn fields_in_range(version: u8, task: &[u8], slot: SlotNumber, n: usize) -> bool
 }
 
 // Whether all messages are in range and no label has more than four.
+#[tactic(auto, using(crate::proofs::Mail::by_message), unfolding(wire::specs::Items::decode_items))]
 fn mail_in_range(version: u8, task: &[u8]) -> bool
     ensures { result ≡ mail_in_range (task_of version task.now).mailbox }
 {
     let mailbox = wire::drop(task, image::task_size(version));
     let k = mailbox.len() / image::MESSAGE_SIZE;
     let mut counts: [u8; 16] = [0; 16];
-    let mut j: usize = 0;
-    while j < k {
-        let label = wire::byte(mailbox, image::MESSAGE_SIZE * j) as usize;
-        let sender = wire::byte(mailbox, image::MESSAGE_SIZE * j + 1);
+    for j in 0..k {
+        let label = mailbox[image::MESSAGE_SIZE * j] as usize;
+        let sender = mailbox[image::MESSAGE_SIZE * j + 1];
         if (label <= 15) & (sender <= image::HOST) {
             let count = counts[label];
             if count < 4 {
                 counts[label] = count + 1;
-                j += 1;
             } else {
                 return false;
             }
@@ -147,7 +149,7 @@ fn mail_in_range(version: u8, task: &[u8]) -> bool
 fn check_record(version: u8, task: &[u8], slot: SlotNumber, n: usize) -> Result<(), Refusal>
     ensures { number result ≡ record_number version slot.number n (slot_of version task.now) }
 {
-    if task.len() == 0 {
+    if task.is_empty() {
         return Ok(());
     }
     if fields_in_range(version, task, slot, n) {
@@ -204,36 +206,27 @@ fn check_slots(version: u8, b: &[u8], n: usize) -> Result<(), Refusal>
 fn check_tail(image: &[u8]) -> Result<(), Refusal>
     ensures { number result ≡ tail_number image.now }
 {
-    if image::skip(image::slots_part(image), 16).len() == 0 {
+    if image::skip(image::slots_part(image), 16).is_empty() {
         Ok(())
     } else {
         Err(Refusal::Tail)
     }
 }
 
-// The higher of two.
-fn max(a: usize, b: usize) -> usize
-    ensures { result ≡ max a b }
-{
-    if a < b { b } else { a }
-}
-
 // Whether no slot of a task's spare is used. `free_from` is the first slot above all slots seen and their spares.
+#[tactic(auto, using(crate::proofs::Spares::by_slot))]
 fn spares_unused(version: u8, b: &[u8]) -> bool
     ensures { result ≡ spares_unused (slots_of version 16 b.now) }
 {
     let at = image::SPARE_AT + image::clearance_width(version);
     let mut rest = b;
-    let mut slot: usize = 0;
     let mut free_from: usize = 0;
-    while slot < 16 {
+    for slot in 0..16 {
         let record = image::front_record(rest);
-        if (record.len() == 0) | (free_from <= slot) {
+        if record.is_empty() | (free_from <= slot) {
             let spare = wire::byte_at(record, at) as usize;
-            free_from = max(free_from, slot + spare + 1);
-            let next = image::behind(rest);
-            rest = next;
-            slot += 1;
+            free_from = free_from.max(slot + spare + 1);
+            rest = image::behind(rest);
         } else {
             return false;
         }
@@ -284,6 +277,7 @@ fn from_slot(image: &[u8], slot: usize) -> &[u8]
 }
 
 // Where the record of a slot stands: start and length both 0 for an unused slot, a slot above 15 and a refused image.
+#[tactic(auto, using(image::proofs::Image::told_none, image::proofs::Image::told_within, image::proofs::Image::told_some))]
 pub fn record_extent(image: &[u8], slot: usize) -> image::Extent
     ensures { result ≡ record_extent image.now slot }
 {
@@ -297,12 +291,13 @@ pub fn record_extent(image: &[u8], slot: usize) -> image::Extent
     } else {
         image::Extent {
             start: image.len() - rest.len() + 2,
-            length: length,
+            length,
         }
     }
 }
 
 // That record, as the part of the image that begins and ends there.
+#[tactic(auto, using(image::proofs::Image::extent_told, image::proofs::Image::extent_begins))]
 pub fn record(image: &[u8], slot: usize) -> &[u8]
     ensures { (result.now ≡ record_part image.now slot)
         × (result.ref_ptr ≡ offset_by (record_extent image.now slot).start image.entry.ref_ptr) }

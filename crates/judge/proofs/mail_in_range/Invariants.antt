@@ -1,10 +1,6 @@
 -- `judge::mail_in_range` meets its contract: the counts are those of the messages read, which are in range.
-use Prim.Native.Nat.{◌≤◌, ◌-◌}
 use Rattle.judge.proofs.Mail.{messages, Counted}
 use Rattle.judge.proofs.mail_in_range.Given as goal
 
 abbrev pub invariant-loop-j : goal.invariant-loop-j
-invariant-loop-j l = (l.j ≤ l.k) × Counted l.counts (messages l.j l.mailbox)
-
-abbrev pub decreases-loop-j : goal.decreases-loop-j
-decreases-loop-j l = l.k - l.j
+invariant-loop-j l = Counted l.counts (messages l.j l.mailbox)

@@ -1,5 +1,4 @@
 -- `judge::spares_unused` meets its contract: each slot before the current one stands above the spares before it.
-use Prim.Native.Nat.{◌≤◌, ◌-◌}
 use mathlib.Core.Path.{◌≡◌}
 use mathlib.Core.Bool.{true}
 use Rattle.wire.specs.Lists.{each}
@@ -9,7 +8,4 @@ use Rattle.judge.proofs.spares_unused.Given as goal
 
 abbrev pub invariant-loop-slot : goal.invariant-loop-slot
 invariant-loop-slot l =
-    (l.slot ≤ 16) × (l.rest ≡ skip l.slot l.b) × (l.free_from ≡ free_from (slots_of l.version 16 l.b) l.slot) × (each l.slot (is_clear (slots_of l.version 16 l.b)) ≡ true)
-
-abbrev pub decreases-loop-slot : goal.decreases-loop-slot
-decreases-loop-slot l = 16 - l.slot
+    (l.rest ≡ skip l.slot l.b) × (l.free_from ≡ free_from (slots_of l.version 16 l.b) l.slot) × (each l.slot (is_clear (slots_of l.version 16 l.b)) ≡ true)
