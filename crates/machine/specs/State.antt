@@ -2,19 +2,9 @@
 use Rattle.std.specs.Prelude.{ℕ, ◌+◌, Bool, true, false, List, eqb, get_or, set}
 use Rattle.wire.specs.Lists.{without}
 use Rattle.machine.specs.declared.Message.{Message}
-use Rattle.machine.specs.declared.Kind.{Kind}
-use Rattle.machine.specs.declared.Kind.TheVariants.{Live, Done, PastProgram, StoppedByLabel, WithoutSpare, StoppedByClearance}
 
--- the numbers of the kinds: ran off the program is 3; stopped by a label, for want of spare slots and by its clearance are 4 to 6
-abbrev pub kind_number : Kind → ℕ
-kind_number Live = 1
-kind_number Done = 2
-kind_number PastProgram = 3
-kind_number StoppedByLabel = 4
-kind_number WithoutSpare = 5
-kind_number StoppedByClearance = 6
-
--- kind: the number of one; clearance: what its label may rise to; pc: 01's place, the index of the next instruction; mailbox: oldest message first
+-- kind: 1 live, 2 done, 3 ran off the program, 4 stopped by a label, 5 stopped for want of spare slots, 6 stopped by its clearance;
+-- clearance: what its label may rise to; pc: 01's place, the index of the next instruction; mailbox: oldest message first
 pub record Task : Type 0 where
   pub kind : ℕ
   pub label : ℕ

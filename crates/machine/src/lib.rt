@@ -1,5 +1,5 @@
-// The meaning of documents 01 and 02: definitions in specs/, laws in proofs/ and types of what they speak
-// of, for the code of other crates.
+// The meaning of documents 01 and 02: definitions in specs/, laws in proofs/ and types for the code of
+// other crates.
 #![tactic(auto)]
 
 ghost use Rattle.std.specs.Prelude.{◌<◌};
@@ -11,7 +11,7 @@ pub struct SlotNumber {
     ghost in_range: { number < 16 },
 }
 
-// The kinds of a task. An unused slot has none, and counts as 0 where a byte says the kind.
+// The kinds of a task, each with the number that a byte says it by; 0 says that a slot is unused.
 #[derive(Clone, Copy, Debug, PartialEq, Eq)]
 pub enum Kind {
     Live = 1,

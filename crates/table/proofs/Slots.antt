@@ -6,16 +6,12 @@ use mathlib.Core.List.{List}
 use native.Mathlib.Decide.{dec_lt}
 use native.Mathlib.Omega.{arith}
 use borrow.Author.Tests.{eqb-true, eqb-false, ne_eqb}
-use denote.Enum.Declared.{tag_of}
 use lib.Dec.{eqb}
 use lib.ListN.{length, get_or, drop, set, replicate, get_or-eq_default}
 use Rattle.wire.specs.Lists.{tabulate}
 use Rattle.wire.proofs.Lists.{split}
 use Rattle.wire.proofs.Tabulate.{length_tabulate, get_d_tabulate, tabulate_same, tabulate_set}
-use Rattle.machine.specs.declared.Kind.{Kind}
-use Rattle.machine.specs.declared.Kind.TheVariants.{Live, Done, PastProgram, StoppedByLabel, WithoutSpare, StoppedByClearance}
-use Rattle.machine.specs.contracts.Kind.{the_type}
-use Rattle.machine.specs.State.{kind_number, Task, Slot, unused, used, slot_at, has_live_task, is_unused, with_kind, no_message}
+use Rattle.machine.specs.State.{Task, Slot, unused, used, slot_at, has_live_task, is_unused, with_kind, no_message}
 use Rattle.table.specs.Table.{mailbox_room, low_four, window, message_in, task_in, held, slots_of_words}
 use Rattle.table.specs.Change.{task_or, task_at, Used, message_at, change_slot, change, slot_with_kind}
 use Rattle.table.specs.Words.{SlotStored}
@@ -133,22 +129,6 @@ module _ (t : List ℕ) (s : ℕ) where
       rw (mailbox_is here) (get_d_tabulate (min (get_or (window t s) 12 0) 64) (message_in (window t s)) i no_message (omega (arith, mailbox_read here)))
 
 -- ---- the kind: a slot's task is there where its kind is not 0
-
-pub kind_tag : (k : Kind) → tag_of the_type k + 1 ≡ kind_number k
-kind_tag Live = refl
-kind_tag Done = refl
-kind_tag PastProgram = refl
-kind_tag StoppedByLabel = refl
-kind_tag WithoutSpare = refl
-kind_tag StoppedByClearance = refl
-
-pub kind_small : (k : Kind) → kind_number k < 256
-kind_small Live = omega arith
-kind_small Done = omega arith
-kind_small PastProgram = omega arith
-kind_small StoppedByLabel = omega arith
-kind_small WithoutSpare = omega arith
-kind_small StoppedByClearance = omega arith
 
 -- a slot is unused where its kind is 0, and live where it is 1
 pub unused_kind : (t : List ℕ) (s : ℕ) → is_unused (slot_at (slots_of_words t) s) ≡ eqb (task_at (slots_of_words t) s).kind 0

@@ -7,7 +7,7 @@ ghost use Rattle.std.specs.Prelude.{◌+◌, ◌*◌, ◌<◌, ◌≤◌, ◌%�
 ghost use Rattle.label.specs.Label.{bit};
 ghost use Rattle.planes.specs.Planes.{label_from, plane_of};
 ghost use Rattle.machine.specs.Limits.{highest_label};
-ghost use Rattle.machine.specs.State.{kind_number, unused, slot_at, has_live_task, is_unused, register, with_label, with_spare, with_pc, with_register, with_mailbox, without_message};
+ghost use Rattle.machine.specs.State.{unused, slot_at, has_live_task, is_unused, register, with_label, with_spare, with_pc, with_register, with_mailbox, without_message};
 ghost use Rattle.table.specs.Table.{start_word, ring_word, slot_words, mailbox_room, window, plane_in, ring_in, slots_in, held};
 ghost use Rattle.table.specs.Words.{SlotChanged, SlotStored, cleared, Planed, WithBit, WithoutBit, Moved, Mailed, down, up, With, Closed, Without};
 ghost use Rattle.table.specs.Change.{Used, task_at, message_at, change, slot_with_kind, with_message, with_mail, opened, new_task};
@@ -237,13 +237,12 @@ impl Table {
 
     // ---- changing a field
 
-    // The task in the slot gets another kind. The slot has to be used: in an unused one a kind would be a task.
-    pub fn set_kind(&mut self, slot: SlotNumber, kind: Kind)
+    // The task in the slot gets kind x; kind 0 takes it away. The slot has to be used: in an unused one a kind would be a task.
+    pub fn set_kind(&mut self, slot: SlotNumber, x: u8)
         requires { Used slot.number (slots_in self.old) }
-        ensures { slots_in self.new
-            ≡ set (slots_in self.old) slot.number (slot_with_kind (kind_number kind) (slot_at (slots_in self.old) slot.number)) }
+        ensures { slots_in self.new ≡ set (slots_in self.old) slot.number (slot_with_kind x (slot_at (slots_in self.old) slot.number)) }
     {
-        self.put(slot, KIND, kind as u64);
+        self.put(slot, KIND, x as u64);
     }
 
     // The task in the slot gets label x.
