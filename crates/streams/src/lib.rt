@@ -8,7 +8,7 @@ use std::io;
 use std::io::{Read, Write};
 
 // Reads until the buffer is full or the input ends, since one read may give less: how many bytes, at the front of the buffer. A read that
-// fails ends it: what was read before stands there too.
+// fails ends it: what was read before stands there too. `read_exact` refuses an input that ends before, and says nothing of `failed`.
 pub fn read_full<R: Read>(input: &mut R, buffer: &mut [u8]) -> io::Result<usize>
     ensures within { IfOk result (λ n. n ≤ length buffer.new) }
     ensures bytes { IfOk result (λ n. Consumes (R.remaining input.old) (R.remaining input.new) (take n buffer.new)) }
@@ -27,6 +27,7 @@ pub fn read_full<R: Read>(input: &mut R, buffer: &mut [u8]) -> io::Result<usize>
 }
 
 // Writes all of a text, since one write may take less. A write that fails or takes nothing ends it: a front of the text was written.
+// `write_all` says nothing of `failed`.
 pub fn write_full<W: Write>(output: &mut W, text: &[u8]) -> io::Result<()>
     ensures whole { OnOk result (Appends (W.contents output.old) (W.contents output.new) text.now) }
     ensures failed { OnErr result ((n : ℕ) × Appends (W.contents output.old) (W.contents output.new) (take n text.now)) }

@@ -1,6 +1,7 @@
 -- Definitions for contracts of functions that are no calls: reading a number in decimal. No claim and no call's promise reaches them.
-use Rattle.std.specs.Prelude.{ℕ, suc, ◌+◌, ◌*◌, ◌%◌, Bool, cond, ◌&&◌, ◌||◌, List, [], ◌∷◌, leb, ltb, eqb, length, get_or, take}
+use Rattle.std.specs.Prelude.{ℕ, suc, ◌+◌, ◌*◌, ◌%◌, min, Bool, cond, ◌&&◌, ◌||◌, List, [], ◌∷◌, Option, Some, None, leb, ltb, eqb, length, get_or, take}
 use Rattle.wire.specs.Lists.{all, first_index}
+use Rattle.text.specs.declared.Number.{Number}
 
 -- 0 to 9 in ASCII
 abbrev pub is_digit : ℕ → Bool
@@ -25,3 +26,7 @@ number_length end b = cond (ltb (length (ahead end b)) (length b) && is_decimal 
 
 unfoldable pub number_value : ℕ → List ℕ → ℕ
 number_value end b = value_from 0 (ahead end b)
+
+-- and both as they are read: the number is 256 where it is above 255, and where none stands there, there is none
+unfoldable pub number_read : ℕ → List ℕ → Option Number
+number_read end b = cond (ltb 0 (number_length end b)) (Some (record { value = min (number_value end b) 256; length = number_length end b })) None

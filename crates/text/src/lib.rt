@@ -6,7 +6,7 @@ ghost use Rattle.wire.specs.Lists.{all};
 ghost use Rattle.wire.specs.Items.{encode_items};
 ghost use Rattle.wire.specs.Output.{overwrite};
 ghost use Rattle.text.specs.Text.{decimal, spaced, line_rest};
-ghost use Rattle.text.specs.Inner.{is_digit, is_decimal, value_from, number_length, number_value};
+ghost use Rattle.text.specs.Inner.{is_digit, is_decimal, value_from, number_read};
 
 // ---- writing
 
@@ -19,7 +19,7 @@ pub fn put(out: &mut [u8], text: &[u8]) -> usize
     text.len()
 }
 
-// Writes a number in decimal: how many digits.
+// Writes a number in decimal: how many digits. `write!` would need a writer over the slice, which is no plainer than these stores.
 pub fn put_decimal(out: &mut [u8], x: u32) -> usize
     requires { length (decimal x) ≤ length out.old }
     ensures { (result ≡ length (decimal x)) × (out.new ≡ overwrite (decimal x) out.old) }
@@ -50,10 +50,8 @@ fn put_numbers(out: &mut [u8], numbers: &[u32]) -> usize
         × (out.new ≡ overwrite (encode_items spaced numbers.now) out.old) }
 {
     let mut at: usize = 0;
-    let mut i: usize = 0;
-    while i < numbers.len() {
-        at += put_spaced(&mut out[at..], numbers[i]);
-        i += 1;
+    for &x in numbers {
+        at += put_spaced(&mut out[at..], x);
     }
     at
 }
@@ -75,16 +73,7 @@ pub fn put_line_rest(out: &mut [u8], numbers: &[u32]) -> usize
 fn all_digits(s: &[u8]) -> bool
     ensures { result ≡ all is_digit s.now }
 {
-    let n = s.len();
-    let mut i: usize = 0;
-    while i < n {
-        if (b'0' <= s[i]) & (s[i] <= b'9') {
-            i += 1;
-        } else {
-            return false;
-        }
-    }
-    true
+    s.iter().all(u8::is_ascii_digit)
 }
 
 // Whether s is a number in decimal without leading zeros.
@@ -98,44 +87,36 @@ fn is_decimal(s: &[u8]) -> bool
 // The number that a number above 255 is read as.
 const ABOVE_BYTE: usize = 256;
 
-// The number that digits make, or 256 where it is above 255, however many they are: the first that bring it there decide.
+// The number that digits make, or 256 where it is above 255, however many they are: none behind makes it smaller.
 fn value(s: &[u8]) -> usize
     ensures { result ≡ min (value_from 0 s.now) 256 }
 {
-    let n = s.len();
     let mut x: usize = 0;
-    let mut i: usize = 0;
-    while (i < n) & (x < ABOVE_BYTE) {
-        x = x * 10 + (s[i] % 16) as usize;
-        i += 1;
+    for &d in s {
+        x = (x * 10 + (d % 16) as usize).min(ABOVE_BYTE);
     }
-    if x < ABOVE_BYTE { x } else { ABOVE_BYTE }
+    x
 }
 
-// A number that was read: its value, or 256 where it is above 255, and how many bytes it has together with the byte that ends it; 0 of
-// these where no number was found.
-#[derive(Drop)]
+// A number that was read: its value, or 256 where it is above 255, and how many bytes it has together with the byte that ends it.
+#[derive(Clone, Copy)]
 pub struct Number {
     pub value: usize,
     pub length: usize,
 }
 
 // Reads a number at the front of s that the byte `end` ends.
-pub fn read_number(s: &[u8], end: u8) -> Number
-    ensures { (result.value ≡ min (number_value end s.now) 256) × (result.length ≡ number_length end s.now) }
+pub fn read_number(s: &[u8], end: u8) -> Option<Number>
+    ensures { result ≡ number_read end s.now }
 {
     let digits = wire::take(s, wire::index_of(s, end));
-    let value = value(digits);
     let n = digits.len();
     if (n < s.len()) & is_decimal(digits) {
-        Number {
-            value: value,
+        Some(Number {
+            value: value(digits),
             length: n + 1,
-        }
+        })
     } else {
-        Number {
-            value: value,
-            length: 0,
-        }
+        None
     }
 }

@@ -9,6 +9,7 @@ use native.Mathlib.Numerals.{add-one}
 use native.Mathlib.Omega.{arith}
 use lib.ListN.{length, get_or, set, take, drop, drop_of_length-le}
 use lib.Seq.{drop-cons}
+use Rattle.std.specs.List.{list_all}
 use Rattle.wire.specs.Lists.{each, Every, all, keep, first_index, without, Bytes}
 
 -- ---- cases
@@ -150,6 +151,12 @@ byte_at s h i = every_at IsByte 0 (omega arith) s h i
 -- ---- tests and filters
 
 module _ {A : Type 0} where
+  -- the library's test of each element
+  pub all_list : (p : A → Bool) (xs : List A) → list_all p xs ≡ all p xs
+  unfolding all
+  all_list p [] = refl
+  all_list p (x ∷ xs) = rw (all_list p xs)
+
   pub all_append : (p : A → Bool) (xs ys : List A) → all p (xs ++ ys) ≡ all p xs && all p ys
   unfolding all
   all_append p [] ys = refl
@@ -296,6 +303,14 @@ module _ {A : Type 0} (p : A → Bool) where
   first_next (x ∷ xs) (suc i) d h t =
       let ih = first_next xs i d (omega arith) t in
       split (p x) (λ e. rw e (λ l. absurd (omega arith))) (λ e. rw e (λ l. omega (arith, ih (omega arith))))
+
+  -- p fails at each of the first n
+  pub first_above : (xs : List A) (n : ℕ) (d : A) → n ≤ length xs → ((k : ℕ) → k < n → p (get_or xs k d) ≡ false) → n ≤ first_index p xs
+  first_above xs zero d h f = omega arith
+  first_above [] (suc n) d h f = absurd (not-suc-le-zero h)
+  first_above (x ∷ xs) (suc n) d h f =
+      let ih = first_above xs n d (omega arith) (λ k l. f (suc k) (omega arith)) in
+      rw (f 0 (omega arith)) (omega arith)
 
   pub first_past : (xs : List A) (i : ℕ) → length xs ≤ i → i ≤ first_index p xs → i ≡ first_index p xs
   first_past xs i h l = omega (arith, first_le xs)

@@ -5,29 +5,21 @@
 ghost use Rattle.std.specs.Prelude.{◌<◌, ◌≤◌, min, ◌≡◌, [], ◌∷◌, eqb, length, get_or, take, drop};
 ghost use Rattle.wire.specs.Numbers.{decode_number, encode_number};
 ghost use Rattle.wire.specs.Lists.{first_index};
-ghost use Rattle.wire.specs.Inner.{written, same};
+ghost use Rattle.wire.specs.Inner.{written};
 ghost use Rattle.wire.specs.Slices.{offset_by};
-
-// Byte i of s.
-pub fn byte(s: &[u8], i: usize) -> u8
-    requires { i < length s.now }
-    ensures { result ≡ get_or s.now i 0 }
-{
-    s[i]
-}
 
 // Byte i of s, and 0 past its end.
 pub fn byte_at(s: &[u8], i: usize) -> u8
     ensures { result ≡ get_or s.now i 0 }
 {
-    if i < s.len() { s[i] } else { 0 }
+    s.get(i).copied().unwrap_or(0)
 }
 
 // The first n bytes of s, or all of it where it has fewer.
 pub fn take(s: &[u8], n: usize) -> &[u8]
     ensures { (result.now ≡ take n s.now) × (result.ref_ptr ≡ s.entry.ref_ptr) }
 {
-    if n <= s.len() { &s[..n] } else { s }
+    &s[..n.min(s.len())]
 }
 
 // The bytes of s behind its first n, none where it has no more.
@@ -35,42 +27,14 @@ pub fn drop(s: &[u8], n: usize) -> &[u8]
     ensures { (result.now ≡ drop n s.now)
         × (result.ref_ptr ≡ offset_by (min n (length s.now)) s.entry.ref_ptr) }
 {
-    let end = s.len();
-    if n <= end { &s[n..] } else { &s[end..] }
-}
-
-// Whether s and t are the same bytes.
-pub fn same(s: &[u8], t: &[u8]) -> bool
-    ensures { result ≡ same s.now t.now }
-{
-    let n = s.len();
-    if n != t.len() {
-        return false;
-    }
-    let mut i: usize = 0;
-    while i < n {
-        if s[i] == t[i] {
-            i += 1;
-        } else {
-            return false;
-        }
-    }
-    true
+    &s[n.min(s.len())..]
 }
 
 // The index of the first byte x of s, its length where it has none.
 pub fn index_of(s: &[u8], x: u8) -> usize
     ensures { result ≡ first_index (λ y. eqb y x) s.now }
 {
-    let n = s.len();
-    let mut i: usize = 0;
-    while i < n {
-        if s[i] == x {
-            return i;
-        }
-        i += 1;
-    }
-    i
+    s.iter().position(|&y| y == x).unwrap_or(s.len())
 }
 
 // The number in the first two bytes of s; bytes past its end count as 0. Where both are there, one test says so.
@@ -78,7 +42,7 @@ pub fn decode_u16(s: &[u8]) -> usize
     ensures { (result ≡ decode_number 2 s.now) × (result < 65536) }
 {
     if 2 <= s.len() {
-        (byte(s, 0) as usize) * 256 + (byte(s, 1) as usize)
+        u16::from_be_bytes([s[0], s[1]]) as usize
     } else {
         (byte_at(s, 0) as usize) * 256
     }
@@ -89,51 +53,36 @@ pub fn decode_u32(s: &[u8]) -> u32
     requires { 4 ≤ length s.now }
     ensures { result ≡ decode_number 4 s.now }
 {
-    let high = (byte(s, 0) as u32) * 256 + (byte(s, 1) as u32);
-    (high * 256 + (byte(s, 2) as u32)) * 256 + (byte(s, 3) as u32)
+    u32::from_be_bytes([s[0], s[1], s[2], s[3]])
+}
+
+// Copies a source to the front of an output that has room for it: every write is this one.
+pub fn copy(out: &mut [u8], source: &[u8])
+    ensures { out.new ≡ written source.now out.old }
+{
+    let n = source.len();
+    if n <= out.len() {
+        out[..n].copy_from_slice(source);
+    }
 }
 
 // Writes one byte at the front of an output that has room for it.
 pub fn put_byte(out: &mut [u8], x: u8)
     ensures { out.new ≡ written (x ∷ []) out.old }
 {
-    if 1 <= out.len() {
-        out[0] = x;
-    }
+    copy(out, &[x]);
 }
 
 // Writes the low two bytes of x at the front of an output that has room for them.
 pub fn encode_u16(out: &mut [u8], x: usize)
     ensures { out.new ≡ written (encode_number 2 x) out.old }
 {
-    if 2 <= out.len() {
-        out[0] = (x / 256 % 256) as u8;
-        out[1] = (x % 256) as u8;
-    }
+    copy(out, &((x & 0xffff) as u16).to_be_bytes());
 }
 
 // Writes the four bytes of x at the front of an output that has room for them.
 pub fn encode_u32(out: &mut [u8], x: u32)
     ensures { out.new ≡ written (encode_number 4 x) out.old }
 {
-    if 4 <= out.len() {
-        out[0] = (x / 256 / 256 / 256 % 256) as u8;
-        out[1] = (x / 256 / 256 % 256) as u8;
-        out[2] = (x / 256 % 256) as u8;
-        out[3] = (x % 256) as u8;
-    }
-}
-
-// Copies a source to the front of an output that has room for it.
-pub fn copy(out: &mut [u8], source: &[u8])
-    ensures { out.new ≡ written source.now out.old }
-{
-    let n = source.len();
-    if n <= out.len() {
-        let mut i: usize = 0;
-        while i < n {
-            out[i] = source[i];
-            i += 1;
-        }
-    }
+    copy(out, &x.to_be_bytes());
 }

@@ -4,8 +4,8 @@ use mathlib.Core.Path.{◌≡◌, refl, sym}
 use mathlib.Core.Bool.{Bool, true, false, ◌&&◌, not}
 use mathlib.Core.List.{List, [], ◌∷◌}
 use native.Mathlib.Omega.{arith}
-use borrow.Author.Tests.{eqb-true, leb-true, not-true}
-use lib.Dec.{leb, eqb}
+use borrow.Author.Tests.{ltb-true, ltb-false, eqb-true, leb-true, not-true}
+use lib.Dec.{leb, ltb, eqb}
 use lib.ListN.{length}
 use Rattle.wire.specs.Lists.{each, tabulate, Every, all}
 use Rattle.wire.specs.Output.{overwrite}
@@ -17,7 +17,8 @@ use Rattle.text.specs.Text.{ascii}
 use Rattle.instruction.specs.Table.{Row, table, by_code}
 use Rattle.instruction.proofs.Arms.{NoRow, none_by_code}
 use Rattle.word.specs.Word.{word_of}
-use Rattle.word.specs.Inner.{code_of}
+use Rattle.word.specs.Inner.{code_of, code_found}
+use Rattle.std.proofs.Common.{Some, None}
 
 -- by computation, of every row
 known : each (length table) (λ k. eqb (code_of (word_of k)) k && all (λ y. not (eqb y 32)) (word_of k)) ≡ true
@@ -48,6 +49,24 @@ code_word w h =
     let long : length codes ≡ length table = length_tabulate (length table) (λ k. k) in
     let found = first_passes (λ k. same w (word_of k)) codes 0 (rw long h) in
     sym (same_equal w (word_of (code_of w)) (rw (get_d_tabulate (length table) (λ k. k) (code_of w) 0 h) at found))
+
+-- ---- a word whose code is found
+
+module _ (w : List ℕ) where
+  -- the code is one of the table's, and a word without one is not in the table
+  pub code_some : (k : ℕ) → code_found w ≡ Some k → (k ≡ code_of w) × (k < length table)
+  unfolding code_found
+  code_some k =
+      split (ltb (code_of w) (length table))
+      (λ t. rw t (λ e. let same : code_of w ≡ k = cc in (sym same, rw (← same) (ltb-true (code_of w) (length table) t))))
+      (λ t. rw t (λ e. cc))
+
+  pub code_none : code_found w ≡ None → length table ≤ code_of w
+  unfolding code_found
+  code_none =
+      split (ltb (code_of w) (length table))
+      (λ t. rw t (λ e. cc))
+      (λ t e. ltb-false (code_of w) (length table) t)
 
 -- ---- no word has more than eight letters
 

@@ -5,10 +5,10 @@ ghost use Rattle.std.specs.Prelude.{◌≤◌, ◌≡◌, length};
 ghost use Rattle.wire.specs.Output.{overwrite};
 ghost use Rattle.wire.specs.Inner.{same};
 ghost use Rattle.word.specs.Word.{word_of};
-ghost use Rattle.word.specs.Inner.{code_of};
+ghost use Rattle.word.specs.Inner.{code_found};
 
 // The number of words: their codes are 0 to 13.
-pub const WORDS: u8 = 14;
+const WORDS: u8 = 14;
 
 // Writes the word of a code, nothing where the table has none: how many bytes.
 pub fn put(out: &mut [u8], code: u8) -> usize
@@ -40,19 +40,12 @@ fn is_word(s: &[u8], code: u8) -> bool
 {
     let mut word: [u8; 8] = [0; 8];
     let n = put(&mut word, code);
-    wire::same(s, &word[..n])
+    s == &word[..n]
 }
 
-// The code of a word, `WORDS` where it is not in the table.
-pub fn code_of(s: &[u8]) -> u8
-    ensures { result ≡ code_of s.now }
+// The code of a word, none where it is not in the table.
+pub fn code_of(s: &[u8]) -> Option<u8>
+    ensures { result ≡ code_found s.now }
 {
-    let mut code: u8 = 0;
-    while code < WORDS {
-        if is_word(s, code) {
-            return code;
-        }
-        code += 1;
-    }
-    code
+    (0..WORDS).find(|&code| is_word(s, code))
 }

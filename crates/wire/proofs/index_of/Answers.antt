@@ -1,25 +1,26 @@
+-- `wire::index_of` meets its contract: the first index that the library finds is the one of the definition.
+use Prim.Native.Nat.{ℕ, ◌+◌}
+use mathlib.Core.Logic.{◌≢◌}
+use mathlib.Core.Path.{◌≡◌, refl, sym, ◌∙◌}
+use mathlib.Core.List.{List, ◌∷◌}
 use native.Mathlib.Omega.{arith}
-use borrow.Author.Tests.{eq-eqb, ne_eqb}
+use borrow.Author.Tests.{tests, eq-eqb, ne_eqb}
+use Rattle.std.proofs.Common.{rules}
+use Rattle.std.proofs.lemmas.Iterator.{YieldsList-from_slice, IsFirst-from_position, index_from_first}
 use lib.Dec.{eqb}
-use Rattle.wire.proofs.Lists.{first_here, first_next, first_past}
+use Rattle.wire.specs.Lists.{first_index}
 use Rattle.wire.proofs.index_of.Goals as goal
 
-pub returns-then-s-i : goal.returns-then-s-i
-returns-then-s-i c =
-    let a = c.args in
-    let h = c.loop-i in
-    first_here (λ y. eqb y a.x) a.s.now h.i 0 (omega arith) (eq-eqb _ _ c.if-s-i.true) h.invariant.1
+module _ (x : ℕ) where
+  at_x : (y : ℕ) (ys : List ℕ) → y ≡ x → first_index (λ y. eqb y x) (y ∷ ys) ≡ 0
+  at_x y ys e = rw (eq-eqb y x e)
 
-pub loop-i-preserved : goal.loop-i-preserved
-loop-i-preserved c =
-    let a = c.args in
-    let h = c.loop-i in
-    (omega arith, first_next (λ y. eqb y a.x) a.s.now h.i 0 (omega arith) (ne_eqb _ _ c.if-s-i.false) h.invariant.1)
+  past_x : (y : ℕ) (ys : List ℕ) → y ≢ x → first_index (λ y. eqb y x) (y ∷ ys) ≡ first_index (λ y. eqb y x) ys + 1
+  past_x y ys n = rw (ne_eqb y x n) (omega arith)
 
 pub returns : goal.returns
 returns c =
     let a = c.args in
-    first_past (λ y. eqb y a.x) a.s.now c.loop-i.i (omega arith) c.loop-i.invariant.1
-
-pub loop-i-init : goal.loop-i-init
-loop-i-init c = (omega arith, omega arith)
+    let found = IsFirst-from_position _ _ _ (λ y. y ≡ a.x) (λ y. y ≢ a.x) c.position.ensures.ran (YieldsList-from_slice a.s.now cc)
+    (λ y q k. search (rules, tests)) (λ y q k. search (rules, tests)) in
+    c.unwrap_or.ensures ∙ sym (index_from_first (first_index (λ y. eqb y a.x)) (λ y. y ≡ a.x) (λ y. y ≢ a.x) refl (at_x a.x) (past_x a.x) a.s.now _ found)
