@@ -40,6 +40,7 @@ pub fn clearance_width(version: u8) -> usize
 }
 
 // How many bytes a task has ahead of its messages, in an image of this version.
+#[tactic(auto, using(crate::proofs::Offsets::task_size_lem))]
 pub fn task_size(version: u8) -> usize
     ensures { (result ≡ task_size version) × (result ≤ 38) }
 {
@@ -59,14 +60,15 @@ pub fn clearance(version: u8, task: &[u8]) -> u8
 
 // ---- the parts of an image
 
-// Where a part of an image stands.
-#[derive(Drop)]
+// Where a part of an image stands. Both are 0 where there is none, as the C function `rithennaw_record` tells them: no Option.
+#[derive(Clone, Copy)]
 pub struct Extent {
     pub start: usize,
     pub length: usize,
 }
 
 // The version, by which everything else is read.
+#[tactic(auto, unfolding(crate::specs::Image::version_of))]
 pub fn version(image: &[u8]) -> u8
     ensures { result ≡ version_of image.now }
 {
@@ -74,6 +76,7 @@ pub fn version(image: &[u8]) -> u8
 }
 
 // A multiple of 4 from 4 to 1,024.
+#[tactic(auto, unfolding(machine::specs::Valid::is_program_length))]
 pub fn is_program_length(l: usize) -> bool
     ensures { result ≡ is_program_length l }
 {
@@ -81,6 +84,7 @@ pub fn is_program_length(l: usize) -> bool
 }
 
 // The length of the program, as its field says it.
+#[tactic(auto, using(crate::proofs::Offsets::program_length_at))]
 pub fn program_length(image: &[u8]) -> usize
     ensures { (result ≡ program_length image.now) × (result < 65536) }
 {
@@ -102,6 +106,7 @@ pub fn turn_slot(image: &[u8]) -> u8
 }
 
 // The bytes from slot 0 on.
+#[tactic(auto, unfolding(crate::specs::Image::slots_part))]
 pub fn slots_part(image: &[u8]) -> &[u8]
     ensures { result.now ≡ slots_part image.now }
 {
@@ -109,6 +114,7 @@ pub fn slots_part(image: &[u8]) -> &[u8]
 }
 
 // The length of the record at the front of b, as its field says it.
+#[tactic(auto, unfolding(crate::specs::Image::record_length))]
 pub fn record_length(b: &[u8]) -> usize
     ensures { (result ≡ record_length b.now) × (result < 65536) }
 {
@@ -129,16 +135,14 @@ pub fn behind(b: &[u8]) -> &[u8]
     wire::drop(b, 2 + record_length(b))
 }
 
-// The bytes behind the first k slots of b. What a call returns goes into a local of its own before `rest` may hold it.
+// The bytes behind the first k slots of b.
+#[tactic(auto, using(crate::proofs::Walk::skip_none, crate::proofs::Walk::skip_next))]
 pub fn skip(b: &[u8], k: usize) -> &[u8]
     ensures { result.now ≡ skip k b.now }
 {
     let mut rest = b;
-    let mut slot: usize = 0;
-    while slot < k {
-        let next = behind(rest);
-        rest = next;
-        slot += 1;
+    for _slot in 0..k {
+        rest = behind(rest);
     }
     rest
 }
