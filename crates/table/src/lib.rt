@@ -94,6 +94,7 @@ impl Table {
     // ---- reading
 
     // The kind of the task in the slot, 0 where the slot is unused.
+    #[tactic(auto, using(crate::proofs::Slots::kind_read))]
     pub fn kind(&self, slot: SlotNumber) -> u8
         ensures { result ≡ (task_at (slots_in self.now) slot.number).kind }
     {
@@ -101,6 +102,7 @@ impl Table {
     }
 
     // The slot is used.
+    #[tactic(auto, using(crate::proofs::Slots::unused_kind))]
     pub fn is_used(&self, slot: SlotNumber) -> bool
         ensures { result ≡ not (is_unused (slot_at (slots_in self.now) slot.number)) }
     {
@@ -115,6 +117,7 @@ impl Table {
     }
 
     // The label of the task in the slot.
+    #[tactic(auto, using(crate::proofs::Slots::used_task), unfolding(crate::specs::Table::task_in))]
     pub fn label(&self, slot: SlotNumber) -> u8
         requires { Used slot.number (slots_in self.now) }
         ensures { result ≡ (task_at (slots_in self.now) slot.number).label }
@@ -123,6 +126,7 @@ impl Table {
     }
 
     // The clearance of the task in the slot.
+    #[tactic(auto, using(crate::proofs::Slots::used_task), unfolding(crate::specs::Table::task_in))]
     pub fn clearance(&self, slot: SlotNumber) -> u8
         requires { Used slot.number (slots_in self.now) }
         ensures { result ≡ (task_at (slots_in self.now) slot.number).clearance }
@@ -131,6 +135,7 @@ impl Table {
     }
 
     // The spare slots that the task in the slot has a right to.
+    #[tactic(auto, using(crate::proofs::Slots::used_task), unfolding(crate::specs::Table::task_in))]
     pub fn spare(&self, slot: SlotNumber) -> u8
         requires { Used slot.number (slots_in self.now) }
         ensures { result ≡ (task_at (slots_in self.now) slot.number).spare }
@@ -139,6 +144,7 @@ impl Table {
     }
 
     // The index of the next instruction of the task in the slot.
+    #[tactic(auto, using(crate::proofs::Slots::used_task), unfolding(crate::specs::Table::task_in))]
     pub fn pc(&self, slot: SlotNumber) -> u32
         requires { Used slot.number (slots_in self.now) }
         ensures { result ≡ (task_at (slots_in self.now) slot.number).pc }
@@ -194,6 +200,7 @@ impl Table {
     }
 
     // The label of message i in the slot, the oldest first.
+    #[tactic(auto, using(crate::proofs::Slots::mailbox_fits))]
     pub fn message_label(&self, slot: SlotNumber, i: usize) -> u8
         requires { i < length (task_at (slots_in self.now) slot.number).mailbox }
         ensures { result ≡ (message_at (slots_in self.now) slot.number i).label }
@@ -203,6 +210,7 @@ impl Table {
     }
 
     // The slot that sent message i in the slot.
+    #[tactic(auto, using(crate::proofs::Slots::mailbox_fits, crate::proofs::Slots::message_read), unfolding(crate::specs::Table::message_in))]
     pub fn message_sender(&self, slot: SlotNumber, i: usize) -> u8
         requires { i < length (task_at (slots_in self.now) slot.number).mailbox }
         ensures { result ≡ (message_at (slots_in self.now) slot.number i).sender }
@@ -211,6 +219,7 @@ impl Table {
     }
 
     // The value of message i in the slot.
+    #[tactic(auto, using(crate::proofs::Slots::mailbox_fits, crate::proofs::Slots::message_read), unfolding(crate::specs::Table::message_in))]
     pub fn message_value(&self, slot: SlotNumber, i: usize) -> u32
         requires { i < length (task_at (slots_in self.now) slot.number).mailbox }
         ensures { result ≡ (message_at (slots_in self.now) slot.number i).value }
@@ -413,6 +422,7 @@ impl Table {
     }
 
     // Message i gets a sender and a value.
+    #[tactic(auto, using(crate::proofs::Slots::mailbox_fits))]
     pub fn set_mail(&mut self, slot: SlotNumber, i: usize, sender: u8, value: u32)
         requires { i < length (task_at (slots_in self.old) slot.number).mailbox }
         ensures { slots_in self.new ≡ change slot.number (with_mail i sender value) (slots_in self.old) }
