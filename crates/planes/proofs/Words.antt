@@ -20,12 +20,11 @@ pub one_shifted : (n : ℕ) → n < 64 → (1 * 2 ^ n) % 2 ^ 64 ≡ 2 ^ n
 one_shifted n h = shl_exact {a = 1} 1 n 64 (lit< tt) (omega arith) ∙ one-mul (2 ^ n)
 
 -- 0 less a bit: nothing, or all ones
-pub bits_spread : (x t : ℕ) → x < 2 ^ 64 → t < 2 → (x + t) % 2 ^ 64 ≡ 0 → Bits (λ i. t) x
-bits_spread x t h =
-    two (λ t. (x + t) % 2 ^ 64 ≡ 0 → Bits (λ i. t) x)
-    (λ e i l. let none : x ≡ 0 = omega arith in rw none (bit_zero i))
-    (λ e i l. let all : x ≡ 2 ^ 64 - 1 = omega arith in rw all (bit_below i 64 ∙ rw (below l)))
-    t
+pub bits_spread : (t : ℕ) → t < 2 → Bits (λ i. t) ((0 + (all_ones + 1 - t)) % (all_ones + 1))
+bits_spread =
+    two (λ t. Bits (λ i. t) ((0 + (all_ones + 1 - t)) % (all_ones + 1)))
+    (λ i l. bit_zero i)
+    (λ i l. bit_below i 64 ∙ rw (below l))
   where
     below : {i : ℕ} → i < 64 → ltb i 64 ≡ true
     below {i} l = lt-ltb i 64 l

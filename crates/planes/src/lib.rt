@@ -12,18 +12,14 @@ pub fn below(n: usize) -> u64
     requires { n ≤ 64 }
     ensures { result ≡ 2 ^ n - 1 }
 {
-    if n == 0 {
-        0
-    } else {
-        18446744073709551615 >> (64 - n)
-    }
+    if n == 0 { 0 } else { u64::MAX >> (64 - n) }
 }
 
 // A set without its oldest message.
 pub fn rest(set: u64) -> u64
     ensures { result ≡ without_lowest set }
 {
-    if set == 0 { 0 } else { set & (set - 1) }
+    set & set.wrapping_sub(1)
 }
 
 // ---- planes: bit i of plane b is bit b of the label of message i
@@ -41,7 +37,7 @@ fn spread(label: u8, b: usize) -> u64
     requires { b < 4 }
     ensures { Bits (λ i. bit b label) result }
 {
-    std::num::wrapping_sub_u64(0, bit_of(label, b))
+    0u64.wrapping_sub(bit_of(label, b))
 }
 
 // The messages whose bit in plane b is not the label's.
@@ -81,26 +77,6 @@ pub fn without_bit(plane: u64, k: usize) -> u64
 
 // ---- the four planes of labels, gathered from the last label to the first
 
-#[derive(Drop)]
-pub struct LabelPlanes {
-    pub first: u64,
-    pub second: u64,
-    pub third: u64,
-    pub fourth: u64,
-}
-
-// The planes of no labels.
-pub fn no_labels() -> LabelPlanes
-    ensures { result ≡ planes_of [] }
-{
-    LabelPlanes {
-        first: 0,
-        second: 0,
-        third: 0,
-        fourth: 0,
-    }
-}
-
 // Plane b with the label's bit as bit 0: its own go up by one place.
 fn bit_ahead(plane: u64, label: u8, b: usize) -> u64
     requires { (plane < 2 ^ 63) × (b < 4) }
@@ -109,15 +85,39 @@ fn bit_ahead(plane: u64, label: u8, b: usize) -> u64
     plane * 2 + bit_of(label, b)
 }
 
-// The planes with a label ahead of theirs. All four go in and out by value, so that they stay in registers.
-pub fn ahead(planes: LabelPlanes, label: u8) -> LabelPlanes
-    requires { Fits 63 planes }
-    ensures { result ≡ ahead label planes }
-{
-    LabelPlanes {
-        first: bit_ahead(planes.first, label, 0),
-        second: bit_ahead(planes.second, label, 1),
-        third: bit_ahead(planes.third, label, 2),
-        fourth: bit_ahead(planes.fourth, label, 3),
+// Four words and not an array, which would lie in memory.
+#[derive(Clone, Copy)]
+pub struct LabelPlanes {
+    pub first: u64,
+    pub second: u64,
+    pub third: u64,
+    pub fourth: u64,
+}
+
+impl LabelPlanes {
+    // The planes of no labels.
+    #[tactic(auto, unfolding(crate::specs::Planes::planes_of))]
+    pub fn none() -> LabelPlanes
+        ensures { result ≡ planes_of [] }
+    {
+        LabelPlanes {
+            first: 0,
+            second: 0,
+            third: 0,
+            fourth: 0,
+        }
+    }
+
+    // The planes with a label ahead of theirs. All four go in and out by value, so that they stay in registers.
+    pub fn ahead(self, label: u8) -> LabelPlanes
+        requires { Fits 63 self }
+        ensures { result ≡ ahead label self }
+    {
+        LabelPlanes {
+            first: bit_ahead(self.first, label, 0),
+            second: bit_ahead(self.second, label, 1),
+            third: bit_ahead(self.third, label, 2),
+            fourth: bit_ahead(self.fourth, label, 3),
+        }
     }
 }

@@ -12,7 +12,7 @@ use Rattle.planes.proofs.Labels.{label_is}
 use Rattle.machine.specs.declared.Message.{Message}
 use Rattle.table.specs.Table.{window, plane_in, ring_in, message_in}
 use Rattle.table.specs.Words.{SlotChanged, SlotStored, Planed, Mailed, WithBit, WithoutBit, With, Closed, Without}
-use Rattle.table.proofs.Window.{window_length, changed_none, changed_then}
+use Rattle.table.proofs.Window.{window_length, changed_none, changed_as, changed_then}
 use Rattle.table.proofs.Message.{message_same, word_sender, word_value}
 
 -- ---- one plane after another
@@ -39,6 +39,13 @@ module _ (R : ℕ → ℕ → ℕ → Type 0) where
         → SlotChanged s (Planed (n + 1) R) t v
     planes_more n y u v small p r q =
         changed_then (Planed (n + 1) R) p q (λ h e. rw e (planed_more (window t s) (window u s) n y small (window_length u s) h r))
+
+-- what is allowed of a plane may allow more
+pub planes_as : (R S : ℕ → ℕ → ℕ → Type 0) (s : ℕ) (t u : List ℕ) → ((b x y : ℕ) → b < 4 → R b x y → S b x y)
+    → SlotChanged s (Planed 4 R) t u → SlotChanged s (Planed 4 S) t u
+planes_as R S s t u e p =
+    changed_as (Planed 4 S) p
+    (λ q. record { fields = q.fields; changed = λ b h. e b _ _ h (q.changed b h); kept = λ b h l. absurd (omega arith); ring = q.ring })
 
 -- ---- a message more
 

@@ -97,6 +97,13 @@ used_registers =
     slot_any (λ x. (k : Task) → x ≡ used k → length k.registers ≡ 8) (λ k e. cc)
     (λ w _ k e. let same : task_in w ≡ k = cc in rw (← same) (length_tabulate 8 (λ a. low_four (get_or (drop 4 w) a 0))))
 
+-- no mailbox has more than 64 messages
+pub mailbox_fits : (t : List ℕ) (s : ℕ) → length (task_at (slots_of_words t) s).mailbox ≤ 64
+unfolding task_in
+mailbox_fits =
+    slot_any (λ x. length (task_or x).mailbox ≤ 64) (omega arith)
+    (λ w _. rw (length_tabulate (min (get_or w 12 0) 64) (message_in w)) (omega arith))
+
 module _ (t : List ℕ) (s : ℕ) where
   pub kind_read : s < 16 → (task_at (slots_of_words t) s).kind ≡ get_or (window t s) 0 0 % 256
   unfolding task_in
@@ -116,12 +123,6 @@ module _ (t : List ℕ) (s : ℕ) where
 
   pub mailbox_most : Used s (slots_of_words t) → length (task_at (slots_of_words t) s).mailbox ≤ mailbox_room
   mailbox_most here = omega (arith, mailbox_read here)
-
-  -- a message is in one of the sixteen slots, and one of 64
-  pub message_fits : (i : ℕ) → i < length (task_at (slots_of_words t) s).mailbox → (s < 16) × (i < 64)
-  message_fits i h =
-      let here = mail_used (slots_of_words t) s i h in
-      (used_slot t s here, omega (arith, mailbox_read here))
 
   pub message_read : (i : ℕ) → i < length (task_at (slots_of_words t) s).mailbox → message_at (slots_of_words t) s i ≡ message_in (window t s) i
   message_read i h =

@@ -19,7 +19,7 @@ const SLOTS: usize = 16;
 const SLOT_WORDS: usize = 84;
 
 // The words of the whole table.
-pub const WORDS: usize = SLOTS * SLOT_WORDS;
+const WORDS: usize = SLOTS * SLOT_WORDS;
 
 // The words of the sixteen slots.
 #[derive(Drop)]
@@ -51,22 +51,6 @@ const PLANES: usize = 16;
 
 const RING: usize = 20;
 
-// The word at an index. It takes a slice, because the length of a slice is known.
-fn fetch(t: &[u64], at: usize) -> u64
-    requires { at < length t.now }
-    ensures { result ≡ get_or t.now at 0 }
-{
-    t[at]
-}
-
-// The word at an index gets x.
-fn store(t: &mut [u64], at: usize, x: u64)
-    requires { at < length t.old }
-    ensures { t.new ≡ set t.old at x }
-{
-    t[at] = x;
-}
-
 // The low byte of a word.
 fn byte(x: u64) -> u8
     ensures { result ≡ x % 256 }
@@ -96,7 +80,7 @@ impl Table {
         requires { i < slot_words }
         ensures { result ≡ get_or (window self.now.words slot.number) i 0 }
     {
-        fetch(&self.words, SLOTS * i + slot.number)
+        self.words[SLOTS * i + slot.number]
     }
 
     // Word i of the slot gets x.
@@ -104,12 +88,13 @@ impl Table {
         requires { i < slot_words }
         ensures { SlotStored slot.number (λ w. set w i x) self.old.words self.new.words }
     {
-        store(&mut self.words, SLOTS * i + slot.number, x);
+        self.words[SLOTS * i + slot.number] = x;
     }
 
     // ---- reading
 
     // The kind of the task in the slot, 0 where the slot is unused.
+    #[tactic(auto, using(crate::proofs::Slots::kind_read))]
     pub fn kind(&self, slot: SlotNumber) -> u8
         ensures { result ≡ (task_at (slots_in self.now) slot.number).kind }
     {
@@ -117,6 +102,7 @@ impl Table {
     }
 
     // The slot is used.
+    #[tactic(auto, using(crate::proofs::Slots::unused_kind))]
     pub fn is_used(&self, slot: SlotNumber) -> bool
         ensures { result ≡ not (is_unused (slot_at (slots_in self.now) slot.number)) }
     {
@@ -131,6 +117,7 @@ impl Table {
     }
 
     // The label of the task in the slot.
+    #[tactic(auto, using(crate::proofs::Slots::used_task), unfolding(crate::specs::Table::task_in))]
     pub fn label(&self, slot: SlotNumber) -> u8
         requires { Used slot.number (slots_in self.now) }
         ensures { result ≡ (task_at (slots_in self.now) slot.number).label }
@@ -139,6 +126,7 @@ impl Table {
     }
 
     // The clearance of the task in the slot.
+    #[tactic(auto, using(crate::proofs::Slots::used_task), unfolding(crate::specs::Table::task_in))]
     pub fn clearance(&self, slot: SlotNumber) -> u8
         requires { Used slot.number (slots_in self.now) }
         ensures { result ≡ (task_at (slots_in self.now) slot.number).clearance }
@@ -147,6 +135,7 @@ impl Table {
     }
 
     // The spare slots that the task in the slot has a right to.
+    #[tactic(auto, using(crate::proofs::Slots::used_task), unfolding(crate::specs::Table::task_in))]
     pub fn spare(&self, slot: SlotNumber) -> u8
         requires { Used slot.number (slots_in self.now) }
         ensures { result ≡ (task_at (slots_in self.now) slot.number).spare }
@@ -155,6 +144,7 @@ impl Table {
     }
 
     // The index of the next instruction of the task in the slot.
+    #[tactic(auto, using(crate::proofs::Slots::used_task), unfolding(crate::specs::Table::task_in))]
     pub fn pc(&self, slot: SlotNumber) -> u32
         requires { Used slot.number (slots_in self.now) }
         ensures { result ≡ (task_at (slots_in self.now) slot.number).pc }
@@ -175,8 +165,7 @@ impl Table {
         requires { Used slot.number (slots_in self.now) }
         ensures { (result ≡ length (task_at (slots_in self.now) slot.number).mailbox) × (result ≤ mailbox_room) }
     {
-        let n = self.word(slot, COUNT) as usize;
-        if n < MAILBOX_ROOM { n } else { MAILBOX_ROOM }
+        (self.word(slot, COUNT) as usize).min(MAILBOX_ROOM)
     }
 
     // Where in the ring the oldest message of the slot lies.
@@ -211,6 +200,7 @@ impl Table {
     }
 
     // The label of message i in the slot, the oldest first.
+    #[tactic(auto, using(crate::proofs::Slots::mailbox_fits))]
     pub fn message_label(&self, slot: SlotNumber, i: usize) -> u8
         requires { i < length (task_at (slots_in self.now) slot.number).mailbox }
         ensures { result ≡ (message_at (slots_in self.now) slot.number i).label }
@@ -220,6 +210,7 @@ impl Table {
     }
 
     // The slot that sent message i in the slot.
+    #[tactic(auto, using(crate::proofs::Slots::mailbox_fits, crate::proofs::Slots::message_read), unfolding(crate::specs::Table::message_in))]
     pub fn message_sender(&self, slot: SlotNumber, i: usize) -> u8
         requires { i < length (task_at (slots_in self.now) slot.number).mailbox }
         ensures { result ≡ (message_at (slots_in self.now) slot.number i).sender }
@@ -228,6 +219,7 @@ impl Table {
     }
 
     // The value of message i in the slot.
+    #[tactic(auto, using(crate::proofs::Slots::mailbox_fits, crate::proofs::Slots::message_read), unfolding(crate::specs::Table::message_in))]
     pub fn message_value(&self, slot: SlotNumber, i: usize) -> u32
         requires { i < length (task_at (slots_in self.now) slot.number).mailbox }
         ensures { result ≡ (message_at (slots_in self.now) slot.number i).value }
@@ -276,17 +268,23 @@ impl Table {
 
     // ---- changing the mailbox
 
+    // Each plane of the slot becomes what `change` makes of it and of its number.
+    fn change_planes<F: Fn(u64, usize) -> u64>(&mut self, slot: SlotNumber, change: F)
+        requires { (x : _) → (b : _) → b < 4 → F.pre change x b }
+        ensures { SlotChanged slot.number (Planed 4 (λ b x y. F.post change x b y)) self.old.words self.new.words }
+    {
+        for b in 0..4 {
+            let x = change(self.plane(slot, b), b);
+            self.put(slot, PLANES + b, x);
+        }
+    }
+
     // Each plane of the slot gets the label's bit as bit n.
     fn mark(&mut self, slot: SlotNumber, n: usize, label: u8)
         requires { n < mailbox_room }
         ensures { SlotChanged slot.number (Planed 4 (WithBit n label)) self.old.words self.new.words }
     {
-        let mut b: usize = 0;
-        while b < 4 {
-            let x = planes::with_bit(self.plane(slot, b), n, label, b);
-            self.put(slot, PLANES + b, x);
-            b += 1;
-        }
+        self.change_planes(slot, |plane, b| planes::with_bit(plane, n, label, b));
     }
 
     // The word of message i, there or not, gets a sender and a value.
@@ -328,12 +326,7 @@ impl Table {
         requires { k < mailbox_room }
         ensures { SlotChanged slot.number (Planed 4 (WithoutBit k)) self.old.words self.new.words }
     {
-        let mut b: usize = 0;
-        while b < 4 {
-            let x = planes::without_bit(self.plane(slot, b), k);
-            self.put(slot, PLANES + b, x);
-            b += 1;
-        }
+        self.change_planes(slot, |plane, _| planes::without_bit(plane, k));
     }
 
     // The word of message `from` is written over that of message `to`, both counted from a start of the ring.
@@ -350,10 +343,8 @@ impl Table {
         requires { (start < mailbox_room) × (i < n) × (n ≤ mailbox_room) }
         ensures { SlotChanged slot.number (Moved start (down i n)) self.old.words self.new.words }
     {
-        let mut k = i + 1;
-        while k < n {
+        for k in i + 1..n {
             self.move_mail(slot, start, k, k - 1);
-            k += 1;
         }
     }
 
@@ -362,10 +353,8 @@ impl Table {
         requires { (start < mailbox_room) × (i < mailbox_room) }
         ensures { SlotChanged slot.number (Moved start (up i 0)) self.old.words self.new.words }
     {
-        let mut k = i;
-        while k > 0 {
-            self.move_mail(slot, start, k - 1, k);
-            k -= 1;
+        for k in (0..i).rev() {
+            self.move_mail(slot, start, k, k + 1);
         }
     }
 
@@ -433,6 +422,7 @@ impl Table {
     }
 
     // Message i gets a sender and a value.
+    #[tactic(auto, using(crate::proofs::Slots::mailbox_fits))]
     pub fn set_mail(&mut self, slot: SlotNumber, i: usize, sender: u8, value: u32)
         requires { i < length (task_at (slots_in self.old) slot.number).mailbox }
         ensures { slots_in self.new ≡ change slot.number (with_mail i sender value) (slots_in self.old) }
@@ -453,10 +443,8 @@ impl Table {
     fn clear_fields(&mut self, slot: SlotNumber)
         ensures { SlotStored slot.number (cleared 16) self.old.words self.new.words }
     {
-        let mut i = 0;
-        while i < PLANES {
+        for i in 0..PLANES {
             self.put(slot, i, 0);
-            i += 1;
         }
     }
 

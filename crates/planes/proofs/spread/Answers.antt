@@ -5,7 +5,4 @@ use Rattle.planes.proofs.Words.{bits_spread}
 use Rattle.planes.proofs.spread.Goals as goal
 
 pub returns : goal.returns
-returns c =
-    let a = c.args in
-    bits_spread c.wrapping_sub_u64.result (bit a.b a.label) c.wrapping_sub_u64.type_inv (bit_lt a.b a.label)
-    (rw c.bit_of.ensures at c.wrapping_sub_u64.ensures.value)
+returns c = let a = c.args in rw c.bit_of.ensures (bits_spread (bit a.b a.label) (bit_lt a.b a.label))

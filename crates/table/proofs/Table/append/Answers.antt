@@ -11,14 +11,8 @@ returns c =
     append_slots a.self.now.words a.slot.number c.requires.0 n.result a.message c.write_message.new.self.words c.put.new.self.words
     n.ensures c.requires.1 c.write_message.ensures c.put.ensures
 
-pub word-n-requires : goal.word-n-requires
-word-n-requires c = omega (arith, used_slot _ _ c.requires.0)
-
 pub write_message-requires : goal.write_message-requires
 write_message-requires c = omega (arith, used_slot _ _ c.requires.0, c.requires.1, c.word-n.ensures, mailbox_read c.args.self.now.words c.args.slot.number c.requires.0)
 
 pub overflow_add-n : goal.overflow_add-n
 overflow_add-n c = omega (arith, c.requires.1, c.word-n.ensures, mailbox_read c.args.self.now.words c.args.slot.number c.requires.0)
-
-pub put-requires : goal.put-requires
-put-requires c = omega (arith, used_slot _ _ c.requires.0)

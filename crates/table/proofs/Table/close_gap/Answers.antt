@@ -18,12 +18,3 @@ returns-else-i-n c =
     let a = c.args in
     changed_as (Closed a.i a.n) c.move_down.ensures
     (closed_down a.i a.n c.ring_start-start.result (window a.self.now.words a.slot.number) (window c.move_down.new.self.words a.slot.number) c.ring_start-start.ensures (omega arith))
-
-pub move_up-requires : goal.move_up-requires
-move_up-requires c = omega (arith, c.ring_start-start.ensures)
-
-pub overflow_add-start : goal.overflow_add-start
-overflow_add-start c = omega (arith, c.ring_start-start.ensures)
-
-pub move_down-requires : goal.move_down-requires
-move_down-requires c = omega (arith, c.ring_start-start.ensures)

@@ -16,6 +16,3 @@ returns c =
     (λ e p.
     message_without 0 a.n w (window c.put.new.self.words a.slot.number) (window c.unmark.new.self.words a.slot.number) (omega arith)
     (closed_up 0 a.n c.ring_start-start.result w w (window c.put.new.self.words a.slot.number) c.ring_start-start.ensures (window_length a.self.now.words a.slot.number) (omega arith) (omega arith) still e) p)
-
-pub overflow_add-start : goal.overflow_add-start
-overflow_add-start c = omega (arith, c.ring_start-start.ensures)

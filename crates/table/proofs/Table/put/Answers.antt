@@ -6,4 +6,4 @@ use Rattle.table.proofs.Table.put.Goals as goal
 pub returns : goal.returns
 returns c =
     let a = c.args in
-    rw c.store.ensures (stored_set a.self.now.words a.slot.number a.i a.x (omega arith) (omega arith) (omega arith))
+    stored_set a.self.now.words a.slot.number a.i a.x (omega arith) (omega arith) (omega arith)

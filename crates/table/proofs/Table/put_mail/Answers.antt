@@ -15,6 +15,3 @@ returns c =
     changed_as (Mailed a.i (a.sender * 4294967296 + a.value)) c.put.ensures
     (mail_stored a.i ((c.ring_start.result + a.i) % 64) (a.sender * 4294967296 + a.value) w (window c.put.new.self.words a.slot.number) (window_length a.self.now.words a.slot.number) (omega arith)
     (ap (λ (x : ℕ). (x + a.i) % 64) c.ring_start.ensures))
-
-pub overflow_add-at : goal.overflow_add-at
-overflow_add-at c = omega (arith, c.ring_start.ensures)

@@ -1,12 +1,11 @@
 -- `table::Table::register` meets its contract: a register has a word of its own.
 use Prim.Native.Nat.{ℕ}
 use mathlib.Core.Path.{sym, ap, ◌∙◌}
-use native.Mathlib.Omega.{arith}
 use lib.ListN.{get_or, drop}
 use lib.Seq.{get_or-drop}
 use Rattle.wire.proofs.Tabulate.{get_d_tabulate}
 use Rattle.table.specs.Table.{low_four, window, task_in}
-use Rattle.table.proofs.Slots.{used_slot, used_task}
+use Rattle.table.proofs.Slots.{used_task}
 use Rattle.table.proofs.Table.register.Goals as goal
 
 pub returns : goal.returns
@@ -17,6 +16,3 @@ returns c =
     rw (used_task a.self.now.words a.slot.number c.requires.0)
     (c.four.ensures ∙ ap (λ (x : ℕ). low_four x) (c.word.ensures ∙ sym (get_or-drop 4 w a.a 0))
     ∙ sym (get_d_tabulate 8 (λ c. low_four (get_or (drop 4 w) c 0)) a.a 0 c.requires.1))
-
-pub word-requires : goal.word-requires
-word-requires c = omega (arith, used_slot _ _ c.requires.0, c.requires.1)

@@ -1,6 +1,5 @@
 -- `table::Table::set_mail` meets its contract: the word of a message that is there.
 use native.Mathlib.Omega.{arith}
-use Rattle.table.proofs.Slots.{message_fits}
 use Rattle.table.proofs.Mailbox.{mail_slots}
 use Rattle.table.proofs.Table.set_mail.Goals as goal
 
@@ -8,6 +7,3 @@ pub returns : goal.returns
 returns c =
     let a = c.args in
     mail_slots a.self.now.words c.put_mail.new.self.words a.slot.number a.i a.sender a.value c.requires (omega arith) (omega arith) c.put_mail.ensures
-
-pub put_mail-requires : goal.put_mail-requires
-put_mail-requires c = (message_fits c.args.self.now.words c.args.slot.number c.args.i c.requires).1

@@ -1,6 +1,6 @@
--- `planes::ahead` meets its contract: plane by plane.
+-- `planes::LabelPlanes::ahead` meets its contract: plane by plane.
 use Rattle.std.proofs.Common.{arith}
-use Rattle.planes.proofs.ahead.Goals as goal
+use Rattle.planes.proofs.LabelPlanes.ahead.Goals as goal
 
 pub returns : goal.returns
 returns c = rw (c.bit_ahead.ensures, c.bit_ahead-2.ensures, c.bit_ahead-3.ensures, c.bit_ahead-4.ensures)
