@@ -21,7 +21,7 @@ use refusal::Refusal;
 
 // ---- what is wrong, front to back
 
-#[tactic(auto, using(std::proofs::lemmas::Bool::Decides::nat_tests), unfolding(image::specs::Refusal::version_number))]
+#[tactic(auto, unfolding(image::specs::Refusal::version_number))]
 fn check_version(image: &[u8]) -> Result<(), Refusal>
     ensures { number result ≡ version_number image.now }
 {
@@ -48,7 +48,7 @@ pub fn check_instructions(program: &[u8]) -> Result<(), Refusal>
     }
 }
 
-#[tactic(auto, using(std::proofs::lemmas::Bool::Decides::nat_tests), unfolding(image::specs::Refusal::program_number))]
+#[tactic(auto, unfolding(image::specs::Refusal::program_number))]
 fn check_program(image: &[u8]) -> Result<(), Refusal>
     ensures { number result ≡ program_number image.now }
 {
@@ -66,7 +66,7 @@ fn check_program(image: &[u8]) -> Result<(), Refusal>
     }
 }
 
-#[tactic(auto, using(std::proofs::lemmas::Bool::Decides::nat_tests), unfolding(image::specs::Refusal::turn_slot_number))]
+#[tactic(auto, unfolding(image::specs::Refusal::turn_slot_number))]
 fn check_turn_slot(image: &[u8]) -> Result<(), Refusal>
     ensures { number result ≡ turn_slot_number image.now }
 {
@@ -94,7 +94,6 @@ fn is_record_length(version: u8, l: usize) -> bool
 }
 
 // The highest kind in an image of this version.
-#[tactic(auto, using(std::proofs::lemmas::Bool::Decides::nat_tests))]
 fn highest_kind(version: u8) -> Kind
     ensures { kind_number result ≡ highest_kind version }
 {
@@ -131,7 +130,7 @@ fn mail_in_range(version: u8, task: &[u8]) -> bool
 }
 
 // The length of the slot at the front of b: that it is there, that it is one, and that its record is there.
-#[tactic(auto, using(std::proofs::lemmas::Bool::Decides::nat_tests), unfolding(image::specs::Refusal::length_number))]
+#[tactic(auto, unfolding(image::specs::Refusal::length_number))]
 fn check_length(version: u8, b: &[u8]) -> Result<(), Refusal>
     ensures { number result ≡ length_number version b.now }
 {
@@ -216,7 +215,7 @@ impl Head {
     }
 }
 
-#[tactic(auto, using(std::proofs::lemmas::Bool::Decides::nat_tests), unfolding(image::specs::Refusal::tail_number))]
+#[tactic(auto, unfolding(image::specs::Refusal::tail_number))]
 fn check_tail(image: &[u8]) -> Result<(), Refusal>
     ensures { number result ≡ tail_number image.now }
 {
