@@ -4,22 +4,24 @@
 ghost use Rattle.std.specs.Prelude.{◌≡◌};
 ghost use Rattle.wire.specs.Slices.{offset_by};
 ghost use Rattle.instruction.specs.Program.{count};
+ghost use Rattle.machine.specs.State.{kind_number};
 ghost use Rattle.machine.specs.Limits.{highest_kind};
 ghost use Rattle.machine.specs.Valid.{mail_in_range, fields_in_range, spares_unused};
 ghost use Rattle.image.specs.Record.{task_of, slot_of};
 ghost use Rattle.image.specs.Image.{slots_of};
 ghost use Rattle.refusal.specs.Refusal.{number};
 ghost use Rattle.image.specs.Refusal.{version_number, instructions_number, program_number, turn_slot_number};
-ghost use Rattle.image.specs.Refusal.{is_record_length, length_number, record_number, slot_number, slots_number, tail_number, estate_number, image_number};
+ghost use Rattle.image.specs.Refusal.{is_record_length, length_number, record_number, slot_number, slots_number};
+ghost use Rattle.image.specs.Refusal.{tail_number, estate_number, image_number};
 ghost use Rattle.image.specs.Inner.{from_slot};
 ghost use Rattle.image.specs.Part.{record_part, record_extent};
 
-use machine::SlotNumber;
+use machine::{Kind, SlotNumber};
 use refusal::Refusal;
 
 // ---- what is wrong, front to back
 
-#[tactic(auto, using(std::proofs::lemmas::Bool::Decides::nat_tests), unfolding(image::specs::Refusal::version_number))]
+#[tactic(auto, unfolding(image::specs::Refusal::version_number))]
 fn check_version(image: &[u8]) -> Result<(), Refusal>
     ensures { number result ≡ version_number image.now }
 {
@@ -46,7 +48,7 @@ pub fn check_instructions(program: &[u8]) -> Result<(), Refusal>
     }
 }
 
-#[tactic(auto, using(std::proofs::lemmas::Bool::Decides::nat_tests), unfolding(image::specs::Refusal::program_number))]
+#[tactic(auto, unfolding(image::specs::Refusal::program_number))]
 fn check_program(image: &[u8]) -> Result<(), Refusal>
     ensures { number result ≡ program_number image.now }
 {
@@ -64,7 +66,7 @@ fn check_program(image: &[u8]) -> Result<(), Refusal>
     }
 }
 
-#[tactic(auto, using(std::proofs::lemmas::Bool::Decides::nat_tests), unfolding(image::specs::Refusal::turn_slot_number))]
+#[tactic(auto, unfolding(image::specs::Refusal::turn_slot_number))]
 fn check_turn_slot(image: &[u8]) -> Result<(), Refusal>
     ensures { number result ≡ turn_slot_number image.now }
 {
@@ -79,7 +81,7 @@ fn check_turn_slot(image: &[u8]) -> Result<(), Refusal>
 }
 
 // 0, or that of a task and k messages, k at most 64: 37 + 6 × k in version 1, 38 + 6 × k in version 2.
-#[tactic(auto, using(std::proofs::lemmas::Bool::Decides::nat_tests, image::proofs::Offsets::task_size_lem), unfolding(image::specs::Refusal::is_record_length))]
+#[tactic(auto, using(image::proofs::Offsets::task_size_lem), unfolding(image::specs::Refusal::is_record_length))]
 fn is_record_length(version: u8, l: usize) -> bool
     ensures { result ≡ is_record_length version l }
 {
@@ -92,32 +94,14 @@ fn is_record_length(version: u8, l: usize) -> bool
 }
 
 // The highest kind in an image of this version.
-#[tactic(auto, using(std::proofs::lemmas::Bool::Decides::nat_tests))]
-fn highest_kind(version: u8) -> u8
-    ensures { result ≡ highest_kind version }
+fn highest_kind(version: u8) -> Kind
+    ensures { kind_number result ≡ highest_kind version }
 {
-    if version < 2 { 5 } else { 6 }
-}
-
-// Whether the fields ahead of the registers are in range and the label within the clearance, in a slot of an image of this version
-// with n instructions.
-#[tactic(auto, using(image::proofs::Offsets::task_at_lem))]
-fn fields_in_range(version: u8, task: &[u8], slot: SlotNumber, n: usize) -> bool
-    ensures { result ≡ fields_in_range version slot.number n (task_of version task.now) }
-{
-    let width = image::clearance_width(version);
-    let kind = wire::byte_at(task, image::KIND_AT);
-    let label = wire::byte_at(task, image::LABEL_AT);
-    let clearance = image::clearance(version, task);
-    let spare = wire::byte_at(task, image::SPARE_AT + width) as usize;
-    let pc = wire::decode_u16(wire::drop(task, image::PC_AT + width));
-    (1 <= kind)
-        & (kind <= highest_kind(version))
-        & (label <= 15)
-        & (clearance <= 15)
-        & label::is_subset(label, clearance)
-        & (pc <= n)
-        & (slot.number + spare <= 15)
+    if version < 2 {
+        Kind::WithoutSpare
+    } else {
+        Kind::StoppedByClearance
+    }
 }
 
 // Whether all messages are in range and no label has more than four.
@@ -145,26 +129,8 @@ fn mail_in_range(version: u8, task: &[u8]) -> bool
     true
 }
 
-// A task, which has no bytes in an unused slot: its fields, then its mail.
-fn check_record(version: u8, task: &[u8], slot: SlotNumber, n: usize) -> Result<(), Refusal>
-    ensures { number result ≡ record_number version slot.number n (slot_of version task.now) }
-{
-    if task.is_empty() {
-        return Ok(());
-    }
-    if fields_in_range(version, task, slot, n) {
-        if mail_in_range(version, task) {
-            Ok(())
-        } else {
-            Err(Refusal::Mail)
-        }
-    } else {
-        Err(Refusal::TaskField)
-    }
-}
-
 // The length of the slot at the front of b: that it is there, that it is one, and that its record is there.
-#[tactic(auto, using(std::proofs::lemmas::Bool::Decides::nat_tests), unfolding(image::specs::Refusal::length_number))]
+#[tactic(auto, unfolding(image::specs::Refusal::length_number))]
 fn check_length(version: u8, b: &[u8]) -> Result<(), Refusal>
     ensures { number result ≡ length_number version b.now }
 {
@@ -180,29 +146,76 @@ fn check_length(version: u8, b: &[u8]) -> Result<(), Refusal>
     if whole { Ok(()) } else { Err(Refusal::Short) }
 }
 
-// A slot, at the front of b: its length, then its record.
-#[tactic(auto, unfolding(image::specs::Refusal::slot_number))]
-fn check_slot(version: u8, b: &[u8], slot: SlotNumber, n: usize) -> Result<(), Refusal>
-    ensures { number result ≡ slot_number version slot.number n b.now }
-{
-    check_length(version, b)?;
-    check_record(version, image::front_record(b), slot, n)
+// What the bytes ahead of the slots say of an image, by which each slot is checked.
+#[derive(Clone, Copy)]
+struct Head {
+    version: u8,
+    instructions: usize,
 }
 
-// The sixteen slots.
-#[tactic(auto, using(image::proofs::Walk::slots_first, image::proofs::Walk::slots_done))]
-fn check_slots(version: u8, b: &[u8], n: usize) -> Result<(), Refusal>
-    ensures { number result ≡ slots_number version 16 0 n b.now }
-{
-    let mut rest = b;
-    for slot in 0..16 {
-        check_slot(version, rest, SlotNumber { number: slot }, n)?;
-        rest = image::behind(rest);
+impl Head {
+    // Whether the fields ahead of the registers are in range and the label within the clearance, in this slot.
+    #[tactic(auto, using(image::proofs::Offsets::task_at_lem))]
+    fn fields_in_range(self, task: &[u8], slot: SlotNumber) -> bool
+        ensures { result ≡ fields_in_range self.version slot.number self.instructions (task_of self.version task.now) }
+    {
+        let width = image::clearance_width(self.version);
+        let kind = wire::byte_at(task, image::KIND_AT);
+        let label = wire::byte_at(task, image::LABEL_AT);
+        let clearance = image::clearance(self.version, task);
+        let spare = wire::byte_at(task, image::SPARE_AT + width) as usize;
+        let pc = wire::decode_u16(wire::drop(task, image::PC_AT + width));
+        (Kind::Live as u8 <= kind)
+            & (kind <= highest_kind(self.version) as u8)
+            & (label <= 15)
+            & (clearance <= 15)
+            & label::is_subset(label, clearance)
+            & (pc <= self.instructions)
+            & (slot.number + spare <= 15)
     }
-    Ok(())
+
+    // A task, which has no bytes in an unused slot: its fields, then its mail.
+    fn check_record(self, task: &[u8], slot: SlotNumber) -> Result<(), Refusal>
+        ensures { number result ≡ record_number self.version slot.number self.instructions (slot_of self.version task.now) }
+    {
+        if task.is_empty() {
+            return Ok(());
+        }
+        if self.fields_in_range(task, slot) {
+            if mail_in_range(self.version, task) {
+                Ok(())
+            } else {
+                Err(Refusal::Mail)
+            }
+        } else {
+            Err(Refusal::TaskField)
+        }
+    }
+
+    // A slot, at the front of b: its length, then its record.
+    #[tactic(auto, unfolding(image::specs::Refusal::slot_number))]
+    fn check_slot(self, b: &[u8], slot: SlotNumber) -> Result<(), Refusal>
+        ensures { number result ≡ slot_number self.version slot.number self.instructions b.now }
+    {
+        check_length(self.version, b)?;
+        self.check_record(image::front_record(b), slot)
+    }
+
+    // The sixteen slots.
+    #[tactic(auto, using(image::proofs::Walk::slots_first, image::proofs::Walk::slots_done))]
+    fn check_slots(self, b: &[u8]) -> Result<(), Refusal>
+        ensures { number result ≡ slots_number self.version 16 0 self.instructions b.now }
+    {
+        let mut rest = b;
+        for slot in 0..16 {
+            self.check_slot(rest, SlotNumber { number: slot })?;
+            rest = image::behind(rest);
+        }
+        Ok(())
+    }
 }
 
-#[tactic(auto, using(std::proofs::lemmas::Bool::Decides::nat_tests), unfolding(image::specs::Refusal::tail_number))]
+#[tactic(auto, unfolding(image::specs::Refusal::tail_number))]
 fn check_tail(image: &[u8]) -> Result<(), Refusal>
     ensures { number result ≡ tail_number image.now }
 {
@@ -253,11 +266,11 @@ pub fn check(image: &[u8]) -> Result<(), Refusal>
     check_version(image)?;
     check_program(image)?;
     check_turn_slot(image)?;
-    check_slots(
-        image::version(image),
-        image::slots_part(image),
-        image::program(image).len() / 4,
-    )?;
+    let head = Head {
+        version: image::version(image),
+        instructions: image::program(image).len() / 4,
+    };
+    head.check_slots(image::slots_part(image))?;
     check_tail(image)?;
     check_estate(image)
 }
@@ -276,7 +289,8 @@ fn from_slot(image: &[u8], slot: usize) -> &[u8]
     }
 }
 
-// Where the record of a slot stands: start and length both 0 for an unused slot, a slot above 15 and a refused image.
+// Where the record of a slot stands: start and length both 0 for an unused slot, a slot above 15 and a refused image, as
+// `rithennaw_record` tells them to C.
 #[tactic(auto, using(image::proofs::Image::told_none, image::proofs::Image::told_within, image::proofs::Image::told_some))]
 pub fn record_extent(image: &[u8], slot: usize) -> image::Extent
     ensures { result ≡ record_extent image.now slot }
