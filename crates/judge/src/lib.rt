@@ -4,7 +4,6 @@
 ghost use Rattle.std.specs.Prelude.{◌≡◌};
 ghost use Rattle.wire.specs.Slices.{offset_by};
 ghost use Rattle.instruction.specs.Program.{count};
-ghost use Rattle.machine.specs.State.{kind_number};
 ghost use Rattle.machine.specs.Limits.{highest_kind};
 ghost use Rattle.machine.specs.Valid.{mail_in_range, fields_in_range, spares_unused};
 ghost use Rattle.image.specs.Record.{task_of, slot_of};
@@ -94,13 +93,13 @@ fn is_record_length(version: u8, l: usize) -> bool
 }
 
 // The highest kind in an image of this version.
-fn highest_kind(version: u8) -> Kind
-    ensures { kind_number result ≡ highest_kind version }
+fn highest_kind(version: u8) -> u8
+    ensures { result ≡ highest_kind version }
 {
     if version < 2 {
-        Kind::WithoutSpare
+        Kind::WithoutSpare as u8
     } else {
-        Kind::StoppedByClearance
+        Kind::StoppedByClearance as u8
     }
 }
 
@@ -165,7 +164,7 @@ impl Head {
         let spare = wire::byte_at(task, image::SPARE_AT + width) as usize;
         let pc = wire::decode_u16(wire::drop(task, image::PC_AT + width));
         (Kind::Live as u8 <= kind)
-            & (kind <= highest_kind(self.version) as u8)
+            & (kind <= highest_kind(self.version))
             & (label <= 15)
             & (clearance <= 15)
             & label::is_subset(label, clearance)
