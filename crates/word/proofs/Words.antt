@@ -8,14 +8,12 @@ use borrow.Author.Tests.{ltb-true, ltb-false, eqb-true, leb-true, not-true}
 use lib.Dec.{leb, ltb, eqb}
 use lib.ListN.{length}
 use Rattle.wire.specs.Lists.{each, tabulate, Every, all}
-use Rattle.wire.specs.Output.{overwrite}
 use Rattle.wire.specs.Inner.{same}
 use Rattle.wire.proofs.Lists.{split, and_both, each_at, first_passes}
 use Rattle.wire.proofs.Tabulate.{length_tabulate, get_d_tabulate}
 use Rattle.wire.proofs.Equal.{same_equal}
 use Rattle.text.specs.Text.{ascii}
 use Rattle.instruction.specs.Table.{Row, table, by_code}
-use Rattle.instruction.proofs.Arms.{NoRow, none_by_code}
 use Rattle.word.specs.Word.{word_of}
 use Rattle.word.specs.Inner.{code_of, code_found}
 use Rattle.std.proofs.Common.{Some, None}
@@ -81,22 +79,3 @@ rows_most (r ∷ rs) code e =
 pub word_most : (code : ℕ) → length (word_of code) ≤ 8
 unfolding word_of all ascii tabulate
 word_most code = rows_most table code refl
-
--- ---- the arms of a match over the code: one law for what each asks, and one for what each returns
-
--- where the code is the number k, the word computes
-pub word_room : (n code k : ℕ) (out : List ℕ) → code ≡ k → length (word_of code) ≤ length out → n ≡ length (word_of k) → n ≤ length out
-word_room n code k out e room long = rw (long, ← e) room
-
-pub word_told : (r n code k : ℕ) → code ≡ k → r ≡ n → n ≡ length (word_of k) → r ≡ length (word_of code)
-word_told r n code k e told long = rw (e, ← long) told
-
-pub word_put : (after w out : List ℕ) (code k : ℕ) → code ≡ k → after ≡ overwrite w out → w ≡ word_of k → after ≡ overwrite (word_of code) out
-word_put after w out code k e wrote same = rw (e, ← same) wrote
-
-pub ruleset by_word_lem = (word_told, word_put)
-
--- no row has the code
-pub word_none : (code : ℕ) (out : List ℕ) → NoRow (Unit {0}) code table → (0 ≡ length (word_of code)) × (out ≡ overwrite (word_of code) out)
-unfolding word_of
-word_none code out none = rw (← none_by_code (λ r. ascii r.word) [] code none) (refl, refl)

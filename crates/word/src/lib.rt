@@ -11,6 +11,7 @@ ghost use Rattle.word.specs.Inner.{code_found};
 const WORDS: u8 = 14;
 
 // Writes the word of a code, nothing where the table has none: how many bytes.
+#[tactic(auto, unfolding(crate::specs::Word::word_of, wire::specs::Lists::tabulate, text::specs::Text::ascii))]
 pub fn put(out: &mut [u8], code: u8) -> usize
     requires { length (word_of code) ≤ length out.old }
     ensures { (result ≡ length (word_of code)) × (out.new ≡ overwrite (word_of code) out.old) }

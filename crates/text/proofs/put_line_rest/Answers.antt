@@ -1,9 +1,9 @@
 -- `text::put_line_rest` meets its contract: the line feed is written behind the numbers.
 use Prim.Native.Nat.{◌+◌, ◌≤◌}
-use mathlib.Core.Path.{sym, ◌∙◌}
+use mathlib.Core.Path.{sym}
 use mathlib.Core.List.{[], ◌∷◌}
 use native.Mathlib.Omega.{arith}
-use lib.ListN.{length, length-set}
+use lib.ListN.{length}
 use Rattle.wire.specs.Items.{encode_items}
 use Rattle.wire.proofs.Output.{stores_behind}
 use Rattle.text.specs.Text.{spaced}
@@ -12,26 +12,18 @@ use Rattle.text.proofs.put_line_rest.Goals as goal
 
 pub bounds-out-n : goal.bounds-out-n
 bounds-out-n c =
-    let s = c.before.before.before.before.before.before in
     let wrote = c.put_numbers-n in
-    omega (arith, length_line s.args.numbers.now, s.requires, wrote.ensures.0, wrote.auto.out)
+    omega (arith, length_line c.args.numbers.now, c.requires, wrote.ensures.0, wrote.auto.out)
 
 pub returns : goal.returns
 returns c =
-    let s = c.before.before.before.before.before.before in
-    let numbers = s.args.numbers.now in
+    let numbers = c.args.numbers.now in
     let wrote = c.put_numbers-n in
-    let room : length (encode_items spaced numbers) + 1 ≤ length s.args.out.now = omega (arith, length_line numbers, s.requires) in (
+    let room : length (encode_items spaced numbers) + 1 ≤ length c.args.out.now = omega (arith, length_line numbers, c.requires) in (
       omega (arith, length_line numbers, wrote.ensures.0),
       rw (line_parts numbers)
-          (stores_behind (encode_items spaced numbers) (10 ∷ []) s.args.out.now wrote.new.out wrote.result (sym wrote.ensures.0) room wrote.ensures.1),
+          (stores_behind (encode_items spaced numbers) (10 ∷ []) c.args.out.now wrote.new.out wrote.result (sym wrote.ensures.0) room wrote.ensures.1),
     )
 
 pub put_numbers-n-requires : goal.put_numbers-n-requires
 put_numbers-n-requires c = omega (arith, length_line c.args.numbers.now, c.requires)
-
-pub overflow_add-result : goal.overflow_add-result
-overflow_add-result c = omega (arith, length_line c.args.numbers.now, c.requires, c.put_numbers-n.ensures.0, c.well_formed.0.0)
-
-pub shape_of-out : goal.shape_of-out
-shape_of-out c = length-set c.put_numbers-n.new.out c.put_numbers-n.result 10 ∙ c.put_numbers-n.auto.out

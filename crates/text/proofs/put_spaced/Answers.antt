@@ -6,7 +6,7 @@ use native.Mathlib.Omega.{arith}
 use lib.ListN.{length, set}
 use lib.Seq.{sets-eq}
 use Rattle.wire.specs.Lists.{tabulate}
-use Rattle.wire.proofs.Output.{FrontWritten, part_inside, part_room, both_written, both_fit, both_same}
+use Rattle.wire.proofs.Output.{FrontWritten, part_inside, part_room, both_written}
 use Rattle.text.specs.Text.{ascii, decimal, spaced}
 use Rattle.text.proofs.Text.{length_spaced}
 use Rattle.text.proofs.put_spaced.Goals as goal
@@ -31,9 +31,3 @@ slice_bounds-put_decimal-start c = part_inside (front c.args.x c.args.out.now c.
 
 pub put_decimal-requires : goal.put_decimal-requires
 put_decimal-requires c = part_room (front c.args.x c.args.out.now c.requires)
-
-pub overflow_add-result : goal.overflow_add-result
-overflow_add-result c = omega (arith, both_fit (front c.args.x c.args.out.now c.requires) c.put_decimal.ensures, c.well_formed.0.0)
-
-pub shape_of-out : goal.shape_of-out
-shape_of-out c = both_same (front c.args.x c.args.out.now c.requires) c.put_decimal.ensures
