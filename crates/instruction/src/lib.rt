@@ -50,7 +50,8 @@ fn admitted(n: usize, code: u8, a: u8, b: u8, c: u8) -> bool
 }
 
 // The form of a code with its operands, which are not looked at. A program whose check has passed has the table's codes alone, so
-// the last of them takes what is left: another arm would cost every turn (docs/BENCHMARKS.md).
+// the last of them takes what is left: another arm would cost every turn (docs/BENCHMARKS.md), and so could a call, so it stands
+// in its callers.
 #[inline(always)]
 #[tactic(auto, using(crate::proofs::Arms::by_row_form))]
 fn form(code: u8, a: u8, b: u8, c: u8) -> Instruction
