@@ -7,8 +7,7 @@ use native.Mathlib.Decide.{dec_le}
 use native.Mathlib.Nat.{not-suc-le-zero}
 use native.Mathlib.Numerals.{add-one}
 use native.Mathlib.Omega.{arith}
-use lib.ListN.{length, get_or, set, take, drop, drop_of_length-le}
-use lib.Seq.{drop-cons}
+use lib.ListN.{length, get_or, set, take, drop}
 use Rattle.std.specs.List.{list_all}
 use Rattle.wire.specs.Lists.{each, Every, all, keep, first_index, without, Bytes}
 
@@ -179,15 +178,6 @@ module _ {A : Type 0} where
   unfolding all
   all_and p q [] = refl
   all_and p q (x ∷ xs) = rw (all_and p q xs) (and_exchange (p x) (q x) (all p xs) (all q xs))
-
-  -- a loop that goes up through the elements: the one at index i and those behind it, and none
-  pub all_next : (p : A → Bool) (xs : List A) (i : ℕ) (d : A) → i < length xs → all p (drop i xs) ≡ p (get_or xs i d) && all p (drop (i + 1) xs)
-  unfolding all
-  all_next p xs i d h = rw (drop-cons xs i d h, add-one i)
-
-  pub all_done : (p : A → Bool) (xs : List A) (i : ℕ) → length xs ≤ i → all p (drop i xs) ≡ true
-  unfolding all
-  all_done p xs i h = rw (drop_of_length-le xs {i = i} h)
 
   pub keep_append : (p : A → Bool) (xs ys : List A) → keep p (xs ++ ys) ≡ keep p xs ++ keep p ys
   keep_append p [] ys = refl
