@@ -24,6 +24,8 @@ pub fn rest(set: u64) -> u64
 
 // ---- planes: bit i of plane b is bit b of the label of message i
 
+// That b is below 4 is asked for and is no type: who calls counts b from 0 to 3, and a type would be made anew at each step.
+
 // Bit b of a label.
 fn bit_of(label: u8, b: usize) -> u64
     requires { b < 4 }

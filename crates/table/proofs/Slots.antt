@@ -1,5 +1,5 @@
 -- Laws of the sixteen slots that the table's words mean.
-use Prim.Native.Nat.{ℕ, zero, suc, ◌+◌, ◌%◌, ◌<◌, ◌≤◌, min}
+use Prim.Native.Nat.{ℕ, ◌+◌, ◌%◌, ◌<◌, ◌≤◌, min}
 use mathlib.Core.Path.{◌≡◌, refl, sym, ap, ◌∙◌}
 use mathlib.Core.Logic.{◌≢◌, dite}
 use mathlib.Core.List.{List}
@@ -19,17 +19,12 @@ use Rattle.table.proofs.Change.{length_slots, mail_used}
 use Rattle.table.proofs.Window.{window_length, word_at}
 use Rattle.table.proofs.Task.{kind_stored}
 
-pub get_zeros : (n i : ℕ) → get_or (replicate {A = ℕ} n 0) i 0 ≡ 0
-get_zeros zero i = refl
-get_zeros (suc n) zero = refl
-get_zeros (suc n) (suc i) = get_zeros n i
-
--- of words that are all 0, every slot is unused
-pub none_used : (t : List ℕ) → ((i : ℕ) → get_or t i 0 ≡ 0) → slots_of_words t ≡ replicate 16 unused
+-- where the first words, the kinds, are 0, every slot is unused
+pub none_used : (t : List ℕ) → ((i : ℕ) → i < 16 → get_or t i 0 ≡ 0) → slots_of_words t ≡ replicate 16 unused
 unfolding slots_of_words tabulate task_in
 none_used t h =
-    let kind : (s : ℕ) → get_or (window t s) 0 0 ≡ 0 = λ s. sym (word_at t s 0 (omega arith)) ∙ h (0 + s) in
-    tabulate_same 16 (λ s. unused) (λ s. held (task_in (window t s))) (λ s _. rw (kind s))
+    let kind : (s : ℕ) → s < 16 → get_or (window t s) 0 0 ≡ 0 = λ s l. sym (word_at t s 0 (omega arith)) ∙ h (0 + s) (omega arith) in
+    tabulate_same 16 (λ s. unused) (λ s. held (task_in (window t s))) (λ s l. rw (kind s l))
 
 slot_past : (t : List ℕ) (s : ℕ) → 16 ≤ s → slot_at (slots_of_words t) s ≡ unused
 slot_past t s h = get_or-eq_default (slots_of_words t) unused (rw length_slots h)
@@ -98,9 +93,9 @@ used_registers =
     (λ w _ k e. let same : task_in w ≡ k = cc in rw (← same) (length_tabulate 8 (λ a. low_four (get_or (drop 4 w) a 0))))
 
 -- no mailbox has more than 64 messages
-pub mailbox_fits : (t : List ℕ) (s : ℕ) → length (task_at (slots_of_words t) s).mailbox ≤ 64
+pub mail_fits : (t : List ℕ) (s : ℕ) → length (task_at (slots_of_words t) s).mailbox ≤ 64
 unfolding task_in
-mailbox_fits =
+mail_fits =
     slot_any (λ x. length (task_or x).mailbox ≤ 64) (omega arith)
     (λ w _. rw (length_tabulate (min (get_or w 12 0) 64) (message_in w)) (omega arith))
 

@@ -1,15 +1,17 @@
 // The working storage of a call: sixteen slots of 84 words each, lent to the call and touched by slot and field only.
-// Nothing is tested here that a caller knows: that a slot is used, a register one of the eight, a
-// message in the mailbox, and a label one of four bits.
+// Nothing is tested here that a caller knows: that a slot is used, a register one of the eight, a message in the mailbox, and a label one
+// of four bits.
 #![tactic(auto)]
 
 ghost use Rattle.std.specs.Prelude.{◌+◌, ◌*◌, ◌<◌, ◌≤◌, ◌%◌, ◌≡◌, not, length, get_or, set, replicate};
 ghost use Rattle.label.specs.Label.{bit};
 ghost use Rattle.planes.specs.Planes.{label_from, plane_of};
 ghost use Rattle.machine.specs.Limits.{highest_label};
-ghost use Rattle.machine.specs.State.{unused, slot_at, has_live_task, is_unused, register, with_label, with_spare, with_pc, with_register, with_mailbox, without_message};
+ghost use Rattle.machine.specs.State.{unused, slot_at, has_live_task, is_unused, register, without_message};
+ghost use Rattle.machine.specs.State.{with_label, with_spare, with_pc, with_register, with_mailbox};
 ghost use Rattle.table.specs.Table.{start_word, ring_word, slot_words, mailbox_room, window, plane_in, ring_in, slots_in, held};
-ghost use Rattle.table.specs.Words.{SlotChanged, SlotStored, cleared, Planed, WithBit, WithoutBit, Moved, Mailed, down, up, With, Closed, Without};
+ghost use Rattle.table.specs.Words.{SlotChanged, SlotStored, cleared, Planed, WithBit, WithoutBit};
+ghost use Rattle.table.specs.Words.{Moved, Mailed, down, up, With, Closed, Without};
 ghost use Rattle.table.specs.Change.{Used, task_at, message_at, change, slot_with_kind, with_message, with_mail, opened, new_task};
 
 use machine::{Kind, Message, SlotNumber};
@@ -93,7 +95,10 @@ impl Table {
 
     // ---- reading
 
-    // The kind of the task in the slot, 0 where the slot is unused.
+    // Each field has a function of its own, since what it promises names the field.
+    // A used slot and a message that is there are asked for and are no types: those would borrow the table, which a turn changes.
+
+    // The kind of the task in the slot, 0 where the slot is unused: a number, as in `Task` (machine/specs/State.antt) and in the image.
     #[tactic(auto, using(crate::proofs::Slots::kind_read))]
     pub fn kind(&self, slot: SlotNumber) -> u8
         ensures { result ≡ (task_at (slots_in self.now) slot.number).kind }
@@ -200,7 +205,7 @@ impl Table {
     }
 
     // The label of message i in the slot, the oldest first.
-    #[tactic(auto, using(crate::proofs::Slots::mailbox_fits))]
+    #[tactic(auto, using(crate::proofs::Slots::mail_fits))]
     pub fn message_label(&self, slot: SlotNumber, i: usize) -> u8
         requires { i < length (task_at (slots_in self.now) slot.number).mailbox }
         ensures { result ≡ (message_at (slots_in self.now) slot.number i).label }
@@ -210,7 +215,7 @@ impl Table {
     }
 
     // The slot that sent message i in the slot.
-    #[tactic(auto, using(crate::proofs::Slots::mailbox_fits, crate::proofs::Slots::message_read), unfolding(crate::specs::Table::message_in))]
+    #[tactic(auto, using(crate::proofs::Slots::mail_fits, crate::proofs::Slots::message_read), unfolding(crate::specs::Table::message_in))]
     pub fn message_sender(&self, slot: SlotNumber, i: usize) -> u8
         requires { i < length (task_at (slots_in self.now) slot.number).mailbox }
         ensures { result ≡ (message_at (slots_in self.now) slot.number i).sender }
@@ -219,7 +224,7 @@ impl Table {
     }
 
     // The value of message i in the slot.
-    #[tactic(auto, using(crate::proofs::Slots::mailbox_fits, crate::proofs::Slots::message_read), unfolding(crate::specs::Table::message_in))]
+    #[tactic(auto, using(crate::proofs::Slots::mail_fits, crate::proofs::Slots::message_read), unfolding(crate::specs::Table::message_in))]
     pub fn message_value(&self, slot: SlotNumber, i: usize) -> u32
         requires { i < length (task_at (slots_in self.now) slot.number).mailbox }
         ensures { result ≡ (message_at (slots_in self.now) slot.number i).value }
@@ -279,12 +284,12 @@ impl Table {
         }
     }
 
-    // Each plane of the slot gets the label's bit as bit n.
+    // Each plane of the slot gets the label's bit as bit n. (`move`: a closure that borrows its numbers is other machine code.)
     fn mark(&mut self, slot: SlotNumber, n: usize, label: u8)
         requires { n < mailbox_room }
         ensures { SlotChanged slot.number (Planed 4 (WithBit n label)) self.old.words self.new.words }
     {
-        self.change_planes(slot, |plane, b| planes::with_bit(plane, n, label, b));
+        self.change_planes(slot, move |plane, b| planes::with_bit(plane, n, label, b));
     }
 
     // The word of message i, there or not, gets a sender and a value.
@@ -326,19 +331,23 @@ impl Table {
         requires { k < mailbox_room }
         ensures { SlotChanged slot.number (Planed 4 (WithoutBit k)) self.old.words self.new.words }
     {
-        self.change_planes(slot, |plane, _| planes::without_bit(plane, k));
+        self.change_planes(slot, move |plane, _| planes::without_bit(plane, k));
     }
+
+    // Places below 64 are asked for and are no type, which would be made anew at each step.
 
     // The word of message `from` is written over that of message `to`, both counted from a start of the ring.
     fn move_mail(&mut self, slot: SlotNumber, start: usize, from: usize, to: usize)
         requires { (start < mailbox_room) × (from < mailbox_room) × (to < mailbox_room) }
-        ensures { SlotStored slot.number (λ w. set w (ring_word + (start + to) % mailbox_room) (ring_in start w from)) self.old.words self.new.words }
+        ensures { SlotStored slot.number (λ w. set w (ring_word + (start + to) % mailbox_room) (ring_in start w from))
+            self.old.words self.new.words }
     {
         let x = self.word(slot, RING + (start + from) % MAILBOX_ROOM);
         self.put(slot, RING + (start + to) % MAILBOX_ROOM, x);
     }
 
-    // The messages behind message i, of n, move down by one.
+    // The messages behind message i, of n, move down by one. Each gets the place of the one before, so they go from the front, and those
+    // of `move_up` from the back: the two are no one walk.
     fn move_down(&mut self, slot: SlotNumber, start: usize, i: usize, n: usize)
         requires { (start < mailbox_room) × (i < n) × (n ≤ mailbox_room) }
         ensures { SlotChanged slot.number (Moved start (down i n)) self.old.words self.new.words }
@@ -412,7 +421,8 @@ impl Table {
     pub fn open_mailbox(&mut self, slot: SlotNumber, n: usize, labels: planes::LabelPlanes)
         requires { n ≤ mailbox_room }
         ensures { slots_in self.new
-            ≡ change slot.number (with_mailbox (opened n (label_from 4 (plane_of labels)) (window self.old.words slot.number))) (slots_in self.old) }
+            ≡ change slot.number (with_mailbox (opened n (label_from 4 (plane_of labels)) (window self.old.words slot.number)))
+            (slots_in self.old) }
     {
         self.put(slot, PLANES, labels.first);
         self.put(slot, PLANES + 1, labels.second);
@@ -422,7 +432,7 @@ impl Table {
     }
 
     // Message i gets a sender and a value.
-    #[tactic(auto, using(crate::proofs::Slots::mailbox_fits))]
+    #[tactic(auto, using(crate::proofs::Slots::mail_fits))]
     pub fn set_mail(&mut self, slot: SlotNumber, i: usize, sender: u8, value: u32)
         requires { i < length (task_at (slots_in self.old) slot.number).mailbox }
         ensures { slots_in self.new ≡ change slot.number (with_mail i sender value) (slots_in self.old) }
@@ -448,7 +458,8 @@ impl Table {
         }
     }
 
-    // The slot holds a new task in place of what it held, with registers 0 and no messages; kind 0 leaves it unused.
+    // The slot holds a new task in place of what it held, with registers 0 and no messages; kind 0 leaves it unused. The fields come one by
+    // one: a struct of them would be made for this call alone.
     pub fn put_task(
         &mut self,
         slot: SlotNumber,
