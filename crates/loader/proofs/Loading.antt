@@ -1,12 +1,18 @@
 -- The steps of loading make the task of each record and the slots of the image, and an accepted image can be loaded.
-use Prim.Native.Nat.{ℕ, zero, suc, ◌+◌, ◌-◌, ◌*◌, ◌/◌, ◌≤◌, ◌<◌}
+use Prim.Native.Nat.{ℕ, zero, suc, ◌+◌, ◌-◌, ◌*◌, ◌/◌, ◌%◌, ◌≤◌, ◌<◌}
 use mathlib.Core.Path.{◌≡◌, refl, sym, ap, ◌∙◌}
-use mathlib.Core.List.{List, [], ◌++◌, append-nil}
+use mathlib.Core.List.{List, [], ◌++◌, append_assoc, append-nil}
 use native.Mathlib.Numerals.{add-one}
 use native.Mathlib.Omega.{arith}
 use borrow.Author.Tests.{ne_eqb}
-use lib.ListN.{length, get_or, take, drop, set, length-set, length-drop, drop_of_length-le}
-use lib.Seq.{take_all, drop-cons, set_at, get_or_at, get_or-set_same, append_snoc}
+use lib.ListN.{length, get_or, take, drop, set, length-set, length-drop, length-append, drop_of_length-le}
+use lib.Seq.{take_all, drop_at, drop-cons, drop-drop, set_at, get_or_at, get_or-drop, get_or-set_same, append_snoc}
+use Rattle.std.proofs.lemmas.List.{get_or_append_left, get_or-append-add}
+use denote.Ref.{Bor}
+use Rattle.std.specs.Prelude.{Some}
+use Rattle.std.specs.declared.slice.ChunksExact.{ChunksExact}
+use Rattle.std.specs.Slice.Iter.{chunks_exact_rest, chunks_exact_size, chunks_exact_steps}
+use Rattle.std.specs.Slice.Exact.{chunks_exact_steps_back}
 use Rattle.wire.specs.Lists.{Bytes}
 use Rattle.wire.specs.Numbers.{decode_number}
 use Rattle.wire.proofs.Lists.{every_at, every_weaken}
@@ -38,6 +44,76 @@ use Rattle.loader.specs.Loading.{LabelsFit, Loadable, LoadableSlots, registers_s
 -- what is lent from index k on
 pub from_on : (k : ℕ) (xs : List ℕ) → take (length xs - k) (drop k xs) ≡ drop k xs
 from_on k xs = take_all (length xs - k) (drop k xs) (rw length-drop (omega arith))
+
+-- ---- the messages one by one: chunks of six bytes
+
+-- a number that stands in a front of the bytes
+number_front : (w j : ℕ) (xs ys : List ℕ) → j + w ≤ length xs → decode_number w (drop j xs) ≡ decode_number w (drop j (xs ++ ys))
+number_front zero j xs ys h = refl
+number_front (suc w) j xs ys h =
+    rw (number_front w j xs ys (omega arith), get_or-drop j xs w 0, get_or-drop j (xs ++ ys) w 0, get_or_append_left xs ys 0 (j + w) (omega arith))
+
+-- chunk k of b, and what is left behind it
+pub record ChunkAt (b x left : List ℕ) (k : ℕ) : Type 0 where
+  pub there : k < length b / 6
+  pub behind : left ≡ drop (6 * (k + 1)) b
+  pub sender : get_or x 1 0 ≡ (message_of (drop (6 * k) b)).sender
+  pub value : decode_number 4 (drop 2 x) ≡ (message_of (drop (6 * k) b)).value
+
+module _ (b : List ℕ) (s t : ChunksExact ℕ) (x : Bor (List ℕ)) (size : chunks_exact_size s ≡ 6) where
+  pub chunk_at : (k : ℕ) → chunks_exact_rest s ≡ drop (6 * k) b → chunks_exact_steps s (Some x) t → ChunkAt b x.now (chunks_exact_rest t) k
+  chunk_at k at step =
+      let left = chunks_exact_rest t in
+      let e : drop (6 * k) b ≡ x.now ++ left = sym at ∙ step.1.0 in
+      let six : length x.now ≡ 6 = step.1.1 ∙ size in
+      let long : length (drop (6 * k) b) ≡ length x.now + length left = ap length e ∙ length-append x.now left in
+      let next : 6 * k + 6 ≡ 6 * (k + 1) = omega arith in
+      let m = message_at_lem k b in
+      record {
+        there = omega (arith, rw length-drop at long);
+        behind = sym (drop_at x.now left 6 six) ∙ ap (drop 6) (sym e) ∙ drop-drop 6 (6 * k) b ∙ ap (λ (n : ℕ). drop n b) next;
+        sender =
+            sym (get_or_append_left x.now left 0 1 (omega arith)) ∙ ap (λ (ys : List ℕ). get_or ys 1 0) (sym e) ∙ get_or-drop (6 * k) b 1 0 ∙ sym m.sender;
+        value =
+            number_front 4 2 x.now left (omega arith) ∙ ap (λ (ys : List ℕ). decode_number 4 (drop 2 ys)) (sym e)
+            ∙ ap (decode_number 4) (drop-drop 2 (6 * k) b) ∙ sym m.value;
+      }
+
+-- from the last message to the first: what is left of b, and what was read behind it
+pub record ChunksLeft (b left : List ℕ) : Type 0 where
+  pub behind : List ℕ
+  pub whole : b ≡ left ++ behind
+
+-- the last chunk of what is left, and the bytes behind it that fill none
+pub record LastChunk (b left x rest : List ℕ) : Type 0 where
+  pub count : length left / 6 ≡ length rest / 6 + 1
+  pub there : length left / 6 ≤ length b / 6
+  pub label : get_or x 0 0 ≡ get_or b (6 * (length rest / 6)) 0
+  pub next : ChunksLeft b rest
+
+pub chunks_all : (b : List ℕ) → ChunksLeft b b
+chunks_all b = record { behind = []; whole = sym (append-nil b) }
+
+module _ (b : List ℕ) (s t : ChunksExact ℕ) (x : Bor (List ℕ)) (size : chunks_exact_size s ≡ 6) where
+  pub last_chunk : ChunksLeft b (chunks_exact_rest s) → chunks_exact_steps_back s (Some x) t → LastChunk b (chunks_exact_rest s) x.now (chunks_exact_rest t)
+  last_chunk c step =
+      let left = chunks_exact_rest s in
+      let rest = chunks_exact_rest t in
+      let after = step.2.0 in
+      let six : length x.now ≡ 6 = step.2.2 ∙ size in
+      let few : length after ≡ length left % 6 = rw size at step.2.3 in
+      let behind = x.now ++ (after ++ c.behind) in
+      let whole : b ≡ rest ++ behind
+      = c.whole ∙ ap (λ (ys : List ℕ). ys ++ c.behind) step.2.1 ∙ append_assoc (rest ++ x.now) after c.behind ∙ append_assoc rest x.now (after ++ c.behind) in
+      let long : length left ≡ length rest + 6 + length left % 6
+      = ap length step.2.1 ∙ rw (length-append (rest ++ x.now) after, length-append rest x.now, six, few) in
+      let at : 6 * (length rest / 6) ≡ length rest + 0 = omega arith in
+      record {
+        count = omega arith;
+        there = omega (arith, ap length c.whole, length-append left c.behind);
+        label = sym (rw (whole, at, get_or-append-add rest behind 0 0) (get_or_append_left x.now (after ++ c.behind) 0 0 (omega arith)));
+        next = record { behind = behind; whole = whole };
+      }
 
 -- ---- one register or message after another
 

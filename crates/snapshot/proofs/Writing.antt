@@ -1,7 +1,7 @@
 -- The parts of a view: what is written of a message, a task and a slot, and how long it is.
 use Prim.Native.Nat.{ℕ, ◌+◌, ◌*◌, ◌<◌, ◌≤◌}
 use mathlib.Core.Path.{◌≡◌, refl, sym, ap, ◌∙◌}
-use mathlib.Core.Bool.{Bool, true, false}
+use mathlib.Core.Bool.{Bool, true, false, not}
 use mathlib.Core.List.{List, [], ◌∷◌, ◌++◌}
 use native.Mathlib.Omega.{arith}
 use lib.ListN.{length, take, set, length-append}
@@ -14,7 +14,7 @@ use Rattle.wire.specs.Output.{overwrite}
 use Rattle.wire.proofs.Items.{items_map, items_keep, length_items}
 use Rattle.machine.specs.Version.{has_clearances}
 use Rattle.machine.specs.declared.Message.{Message}
-use Rattle.machine.specs.State.{Task, Slot, unused, used, slot_at}
+use Rattle.machine.specs.State.{Task, Slot, unused, used, is_unused, slot_at}
 use Rattle.machine.specs.View.{view_task, view_slot, view_by}
 use Rattle.wire.specs.Fields.{encode_fields}
 use Rattle.wire.proofs.Lists.{split}
@@ -27,10 +27,11 @@ use Rattle.image.specs.Inner.{head_bytes, clearance_width}
 use Rattle.image.proofs.Offsets.{task_parts}
 use Rattle.image.proofs.Records.{length_message}
 use Rattle.image.proofs.Front.{ahead_length}
+use Rattle.table.specs.declared.Table.{Table}
 use Rattle.table.specs.Table.{slots_in}
 use Rattle.table.specs.Change.{task_or, task_at, Used}
 use Rattle.table.proofs.Slots.{used_registers}
-use Rattle.snapshot.specs.Writing.{snapshot_bytes, shown_slot, shown_task, shown_message, is_shown}
+use Rattle.snapshot.specs.Writing.{snapshot_bytes, shown_slot, shown_task, shown_message, is_shown, head_numbers}
 
 -- ---- a message
 
@@ -39,6 +40,9 @@ module _ (v : ℕ) (m : Message) {label : ℕ} {seen : Bool} (l : label ≡ m.la
   pub message_shown : seen ≡ true → shown_message v m ≡ message_bytes m
   unfolding shown_message
   message_shown e = rw (← l, ← s, e)
+
+  pub message_length : seen ≡ true → length (shown_message v m) ≡ 6
+  message_length e = ap length (message_shown e) ∙ length_message m
 
   pub message_hidden : seen ≡ false → shown_message v m ≡ []
   unfolding shown_message
@@ -55,10 +59,6 @@ module _ (v : ℕ) (t : Task) where
   mailbox_length = sym (length_items message_bytes 6 length_message (keep (λ m. flows m.label v) t.mailbox)) ∙ ap length mailbox_shown
 
 -- ---- a task: its record's length, its fields, its registers and its messages
-
--- the numbers of its fields ahead of the registers
-abbrev pub head_numbers : Task → List ℕ
-head_numbers t = t.kind ∷ t.label ∷ t.clearance ∷ t.spare ∷ t.pc ∷ []
 
 module _ (version v : ℕ) (t : Task) (eight : length t.registers ≡ 8) where
   abbrev registers : List ℕ
@@ -115,6 +115,15 @@ module _ (version kind label clearance spare pc : ℕ) where
 
 -- ---- a slot
 
+-- a slot in the table is used or not
+pub slot_used : (x : Slot) → not (is_unused x) ≡ true → x ≡ used (task_or x)
+slot_used unused e = cc
+slot_used (used t) e = refl
+
+pub slot_unused : (x : Slot) → not (is_unused x) ≡ false → x ≡ unused
+slot_unused unused e = refl
+slot_unused (used t) e = cc
+
 -- the test in the code
 pub shown_flows : (v : ℕ) (ss : List Slot) (s : ℕ) → Used s ss → flows (task_at ss s).label v ≡ is_shown v (slot_at ss s)
 unfolding is_shown
@@ -147,13 +156,13 @@ pub slot_shown : (version v : ℕ) (x : Slot) → is_shown v x ≡ true → show
 unfolding shown_slot shown_task
 slot_shown version v x e = ap (slot_bytes version) (view_slot_shown v x e)
 
--- a slot in the table that the observer sees
-module _ (words : List ℕ) (s version v : ℕ) (shown : is_shown v (slot_at (slots_in words) s) ≡ true) where
-  shown_registers : length (task_at (slots_in words) s).registers ≡ 8
-  shown_registers = used_registers words s (task_at (slots_in words) s) (shown_used v (slots_in words) s shown)
+pub eight_registers : (table : Table) (s : ℕ) → Used s (slots_in table) → length (task_at (slots_in table) s).registers ≡ 8
+eight_registers table s here = used_registers table.words s (task_at (slots_in table) s) here
 
-  pub shown_length : length (shown_slot version v (slot_at (slots_in words) s)) ≡ 2 + task_size version + length (encode_items (shown_message v) (task_at (slots_in words) s).mailbox)
-  shown_length = ap length (slot_shown version v (slot_at (slots_in words) s) shown) ∙ task_length version v (task_at (slots_in words) s) shown_registers
+-- a slot in the table that the observer sees
+module _ (table : Table) (s version v : ℕ) (shown : is_shown v (slot_at (slots_in table) s) ≡ true) where
+  pub shown_length : length (shown_slot version v (slot_at (slots_in table) s)) ≡ 2 + task_size version + length (encode_items (shown_message v) (task_at (slots_in table) s).mailbox)
+  shown_length = ap length (slot_shown version v (slot_at (slots_in table) s) shown) ∙ task_length version v (task_at (slots_in table) s) (eight_registers table s (shown_used v (slots_in table) s shown))
 
 pub slot_hidden : (version v : ℕ) (x : Slot) → is_shown v x ≡ false → shown_slot version v x ≡ 0 ∷ 0 ∷ []
 unfolding shown_slot
@@ -161,10 +170,10 @@ slot_hidden version v x e = ap (slot_bytes version) (view_slot_hidden v x e)
 
 -- ---- the whole
 
-module _ (words image : List ℕ) (turn v : ℕ) where
-  pub snapshot_parts : snapshot_bytes words image turn v ≡ ahead_bytes (version_of image) (program_of image) turn ++ encode_items (shown_slot (version_of image) v) (slots_in words)
+module _ (table : Table) (image : List ℕ) (turn v : ℕ) where
+  pub snapshot_parts : snapshot_bytes table image turn v ≡ ahead_bytes (version_of image) (program_of image) turn ++ encode_items (shown_slot (version_of image) v) (slots_in table)
   unfolding snapshot_bytes shown_slot view_by image_bytes
-  snapshot_parts = rw (items_map (slot_bytes (version_of image)) (view_slot (λ l. flows l v)) (slots_in words))
+  snapshot_parts = rw (items_map (slot_bytes (version_of image)) (view_slot (λ l. flows l v)) (slots_in table))
 
-  pub snapshot_length : length (snapshot_bytes words image turn v) ≡ 3 + length (program_of image) + 1 + length (encode_items (shown_slot (version_of image) v) (slots_in words))
+  pub snapshot_length : length (snapshot_bytes table image turn v) ≡ 3 + length (program_of image) + 1 + length (encode_items (shown_slot (version_of image) v) (slots_in table))
   snapshot_length = rw (snapshot_parts, length-append, ahead_length (version_of image) (program_of image) turn)

@@ -2,23 +2,16 @@
 use mathlib.Core.Path.{◌∙◌}
 use native.Mathlib.Omega.{arith}
 use Rattle.table.specs.Table.{window, slots_in}
-use Rattle.table.proofs.Slots.{used_slot}
 use Rattle.loader.proofs.Loading.{mailbox_opened, mailbox_loaded}
 use Rattle.loader.proofs.load_mailbox.Goals as goal
 
 pub load_mail-requires : goal.load_mail-requires
 load_mail-requires c =
     let a = c.args in
-    omega (arith, mailbox_opened a.slot a.mailbox.now (window a.table.now a.slot) (slots_in a.table.now) (slots_in c.open_mailbox.new.t) ((rw c.label_planes.ensures at c.open_mailbox.ensures)) c.requires.0)
+    omega (arith, mailbox_opened a.slot.number a.mailbox.now (window a.table.now.words a.slot.number) (slots_in a.table.now) (slots_in c.open_mailbox.new.self) ((rw c.label_planes.ensures at c.open_mailbox.ensures)) c.requires.0)
 
 pub returns : goal.returns
 returns c =
     let a = c.args in
     c.load_mail.ensures
-    ∙ mailbox_loaded a.slot a.mailbox.now (window a.table.now a.slot) (slots_in a.table.now) (slots_in c.open_mailbox.new.t) ((rw c.label_planes.ensures at c.open_mailbox.ensures)) c.requires.2
-
-pub label_planes-requires : goal.label_planes-requires
-label_planes-requires c = c.requires.1
-
-pub open_mailbox-requires : goal.open_mailbox-requires
-open_mailbox-requires c = omega (arith, used_slot c.args.table.now c.args.slot c.requires.0, c.requires.1)
+    ∙ mailbox_loaded a.slot.number a.mailbox.now (window a.table.now.words a.slot.number) (slots_in a.table.now) (slots_in c.open_mailbox.new.self) ((rw c.label_planes.ensures at c.open_mailbox.ensures)) c.requires.2

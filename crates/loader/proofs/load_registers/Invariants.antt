@@ -1,5 +1,4 @@
 -- `loader::load_registers` meets its contract: the first a registers are set.
-use Prim.Native.Nat.{◌≤◌, ◌-◌}
 use mathlib.Core.Path.{◌≡◌}
 use Rattle.table.specs.Table.{slots_in}
 use Rattle.table.specs.Change.{change}
@@ -7,7 +6,4 @@ use Rattle.loader.specs.Loading.{registers_set}
 use Rattle.loader.proofs.load_registers.Given as goal
 
 abbrev pub invariant-loop-a : goal.invariant-loop-a
-invariant-loop-a l = (l.a ≤ 8) × (slots_in l.table ≡ change l.slot (registers_set l.a l.registers) (slots_in l.initial.table))
-
-abbrev pub decreases-loop-a : goal.decreases-loop-a
-decreases-loop-a l = 8 - l.a
+invariant-loop-a l = slots_in l.table ≡ change l.slot.number (registers_set l.a l.registers) (slots_in l.initial.table)

@@ -1,24 +1,19 @@
--- `snapshot::is_shown` meets its contract: a task in the table has a kind other than 0.
-use mathlib.Core.Path.{◌∙◌}
-use native.Mathlib.Omega.{arith}
+-- `snapshot::is_shown` meets its contract: a task in the table is shown by its label.
+use mathlib.Core.Path.{sym, ◌∙◌}
+use Rattle.machine.specs.State.{slot_at}
 use Rattle.table.specs.Table.{slots_in}
-use Rattle.table.proofs.Change.{kind_used}
-use Rattle.table.proofs.Slots.{kind_none}
-use Rattle.snapshot.proofs.Writing.{shown_flows, shown_none}
+use Rattle.snapshot.proofs.Writing.{slot_used, slot_unused, shown_flows, shown_none}
 use Rattle.snapshot.proofs.is_shown.Goals as goal
 
-pub returns-then-kind-gt0 : goal.returns-then-kind-gt0
-returns-then-kind-gt0 c =
+pub returns-then-is_used : goal.returns-then-is_used
+returns-then-is_used c =
     let a = c.args in
-    c.flows.ensures ∙ rw c.label.ensures (shown_flows a.observer (slots_in a.table.now) a.slot ((let a = c.args in kind_used (slots_in a.table.now) a.slot (omega (arith, c.kind.ensures, c.if-kind-gt0.true)))))
+    let ss = slots_in a.table.now in
+    let here = slot_used (slot_at ss a.slot.number) (sym c.is_used.ensures ∙ c.if-is_used.true) in
+    c.flows.ensures ∙ rw c.label.ensures (shown_flows a.observer ss a.slot.number here)
 
-pub returns-else-kind-gt0 : goal.returns-else-kind-gt0
-returns-else-kind-gt0 c =
+pub returns-else-is_used : goal.returns-else-is_used
+returns-else-is_used c =
     let a = c.args in
-    shown_none a.observer _ (kind_none a.table.now a.slot (omega (arith, c.kind.ensures, c.if-kind-gt0.false)))
-
-pub kind-requires : goal.kind-requires
-kind-requires c = c.requires
-
-pub label-requires : goal.label-requires
-label-requires c = (let a = c.args in kind_used (slots_in a.table.now) a.slot (omega (arith, c.kind.ensures, c.if-kind-gt0.true)))
+    let x = slot_at (slots_in a.table.now) a.slot.number in
+    c.if-is_used.false ∙ shown_none a.observer x (slot_unused x (sym c.is_used.ensures ∙ c.if-is_used.false))

@@ -10,7 +10,7 @@ pub returns : goal.returns
 returns c =
     let a = c.args in
     rw c.find.ensures
-    (find_shown flows a.observer (task_at (slots_in a.table.now) a.slot), receivable_most a.table.now a.slot c.requires a.observer)
+    (find_shown flows a.observer (task_at (slots_in a.table.now) a.slot.number), receivable_most a.table.now a.slot.number c.requires a.observer)
 
 pub find-requires : goal.find-requires
 find-requires c = c.requires

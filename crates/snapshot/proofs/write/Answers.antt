@@ -25,16 +25,16 @@ returns-then-out-length c =
 pub returns : goal.returns
 returns c =
     let a = c.args in
-    let words = a.table.now in
+    let table = a.table.now in
     let image = a.image.now in
-    let bytes = snapshot_bytes words image a.turn a.observer in
-    let size = snapshot_length words image a.turn a.observer in
+    let bytes = snapshot_bytes table image a.turn a.observer in
+    let size = snapshot_length table image a.turn a.observer in
     let version = c.version-version.ensures in
     let program = c.program-program.ensures in
     let counted = rw version at c.slots_size.ensures.0 in
     let head = rw (version, program) at c.write_head.ensures in
     let long = ahead_length (version_of image) (program_of image) a.turn ∙ ap (λ (l : List ℕ). 3 + length l + 1) (sym program) in
-    let slots = encode_items (shown_slot (version_of image) a.observer) (slots_in words) in
+    let slots = encode_items (shown_slot (version_of image) a.observer) (slots_in table) in
     let whole = lent (ahead_bytes (version_of image) (program_of image) a.turn) slots a.out.now _ long head (rw version at c.write_slots.ensures) in
     let room : length bytes ≤ length a.out.now = omega (arith, size, ap length program, counted) in
-    (omega (arith, size, ap length program, counted), whole ∙ rw (← snapshot_parts words image a.turn a.observer) (sym (written_fits bytes a.out.now room)))
+    (omega (arith, size, ap length program, counted), whole ∙ rw (← snapshot_parts table image a.turn a.observer) (sym (written_fits bytes a.out.now room)))
