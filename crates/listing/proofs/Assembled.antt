@@ -1,7 +1,7 @@
 -- Laws of the writer: the number and the bytes of lines by what is kept of them, and what that makes of the text.
 use Prim.Native.Nat.{ℕ, ◌+◌, ◌*◌, ◌<◌, ◌≤◌}
 use mathlib.Core.Path.{◌≡◌, refl, sym, ap, ap₂, ◌∙◌}
-use mathlib.Core.Bool.{Bool, true, false, ◌&&◌}
+use mathlib.Core.Bool.{Bool, true, ◌&&◌}
 use mathlib.Core.List.{List, [], ◌∷◌, ◌++◌, append-nil}
 use native.Mathlib.Omega.{arith}
 use borrow.Author.Tests.{leb-true}
@@ -20,7 +20,7 @@ use Rattle.monitor.specs.declared.Answer.{Answer}
 use Rattle.monitor.specs.Calls.{CallPromise}
 use Rattle.monitor.proofs.Calls.{busy_0}
 use Rattle.listing.specs.Listing.{Line, line, Spells, is_bytes, is_admitted, lines_number, line_bytes, program_bytes, assemble_call, no_list_call, AssemblePromise, line_of, lines_of}
-use Rattle.listing.specs.Inner.{kept_byte, kept_bytes, Kept, IsRead, kept_number}
+use Rattle.listing.specs.Inner.{kept_byte, kept_bytes, Kept, kept_number}
 use Rattle.listing.proofs.Texts.{lines_unique, reading, spelled, other}
 use Rattle.listing.proofs.Program.{no_line, line_item}
 
@@ -76,17 +76,6 @@ lines_kept : (ls : List Line) → all is_bytes ls ≡ true → encode_items kept
 unfolding all program_bytes encode_items
 lines_kept [] e = refl
 lines_kept (l ∷ ls) e = let b = and_both (is_bytes l) (all is_bytes ls) e in ap₂ (λ (v w : List ℕ). v ++ w) (line_kept l b.0) (lines_kept ls b.1)
-
--- ---- a text that was read, by whether it is a list
-
-module _ (text program : List ℕ) (lines : ℕ) (bytes : Bool) where
-  pub is_list : (t : Bool) → t ≡ true → IsRead t text program lines bytes → Kept text program lines bytes
-  is_list true e read = read
-  is_list false e read = let z : ◌≡◌ {A = ℕ} 0 1 = cc in absurd (omega arith)
-
-  pub is_none : (t : Bool) → t ≡ false → IsRead t text program lines bytes → (ls : List Line) → Spells ls text → ⊥
-  is_none false e read = read
-  is_none true e read = let z : ◌≡◌ {A = ℕ} 0 1 = cc in absurd (omega arith)
 
 -- ---- the number of lines, by what is kept of them
 

@@ -4,24 +4,25 @@ use mathlib.Core.Logic.{dite}
 use mathlib.Core.Path.{◌≡◌, refl, sym, ap, ◌∙◌}
 use mathlib.Core.Bool.{Bool, true, false, ◌&&◌, and-true}
 use mathlib.Core.List.{List, [], ◌∷◌, ◌++◌, append-nil, append_assoc}
+use Rattle.std.specs.Prelude.{Some, None}
 use native.Mathlib.Decide.{dec_lt}
 use native.Mathlib.Omega.{arith}
 use borrow.Author.Tests.{lt-ltb, le-ltb, le-leb, lt-leb}
 use borrow.Rule.Slice.PartMut.{put_mid}
 use lib.Dec.{leb, ltb}
-use lib.ListN.{length, take, drop, length-append, length-drop, take-append-drop, drop_of_length-le}
-use lib.Seq.{length-take-le, take_at, drop-drop}
+use lib.ListN.{length, take, drop, length-append, length-drop, take-append-drop}
+use lib.Seq.{length-take-le, take_at}
 use Rattle.wire.specs.Lists.{Every, all}
 use Rattle.wire.specs.Items.{encode_items}
 use Rattle.wire.specs.Output.{overwrite}
 use Rattle.wire.specs.Inner.{written}
-use Rattle.wire.proofs.Lists.{every_append, all_append}
+use Rattle.wire.proofs.Lists.{every_append, all_append, length_nil}
 use Rattle.wire.proofs.Items.{items_append}
 use Rattle.wire.proofs.Output.{lent_fits}
 use Rattle.listing.specs.declared.ReadLine.{ReadLine}
 use Rattle.listing.specs.Listing.{Line, line_text, listing_text, Spells, is_bytes}
-use Rattle.listing.specs.Inner.{line_at, line_length, kept_bytes, kept, Kept}
-use Rattle.listing.proofs.Lines.{Found, line_stands}
+use Rattle.listing.specs.Inner.{line_at, line_length, told_line, read_line, kept_bytes, kept, Kept}
+use Rattle.listing.proofs.Lines.{Found, line_stands, has_some, line_told, none_told}
 use Rattle.listing.proofs.Texts.{Known, no_list}
 
 -- ---- one line more
@@ -43,26 +44,24 @@ module _ (program : List ℕ) (lines : ℕ) (l : ReadLine) where
   pub kept_none : length program / 4 ≤ lines → program ≡ kept lines l program
   kept_none h = rw (le-ltb lines (length program / 4) h)
 
--- ---- what is kept of the lines that were read so far, up to the byte `at` of the text
+-- ---- what is kept of the lines that were read so far, ahead of the rest of the text
 
-pub record SoFar (text program₀ program : List ℕ) (at lines : ℕ) (bytes : Bool) : Type 0 where
+pub record SoFar (text program₀ program rest : List ℕ) (lines : ℕ) (bytes : Bool) : Type 0 where
   pub list : List Line
   pub known : Every Known list
-  pub spelled : text ≡ listing_text list ++ drop at text
-  pub inside : at ≤ length text
+  pub spelled : text ≡ listing_text list ++ rest
   pub counted : lines ≡ length list
-  pub few : lines ≤ at
+  pub few : lines + length rest ≤ length text
   pub all_bytes : bytes ≡ all is_bytes list
   pub front : lines ≤ length program / 4 → take (4 * lines) program ≡ encode_items kept_bytes list
   pub same : length program ≡ length program₀
 
-pub so_far_none : (text program : List ℕ) → SoFar text program program 0 0 true
+pub so_far_none : (text program : List ℕ) → SoFar text program program text 0 true
 unfolding listing_text encode_items all
 so_far_none text program = record {
   list = [];
   known = tt;
   spelled = refl;
-  inside = omega arith;
   counted = refl;
   few = omega arith;
   all_bytes = refl;
@@ -91,51 +90,47 @@ length_kept program lines l =
     (λ h. rw (le-ltb lines (length program / 4) (omega arith)))
 
 -- one line more
-module _ {text program₀ program : List ℕ} {at lines : ℕ} {bytes : Bool} (h : SoFar text program₀ program at lines bytes)
-    (r : ReadLine) (found : 0 < r.length)
-    (told : (r.code ≡ (line_at (drop at text)).code)
-    × (r.a ≡ min (line_at (drop at text)).a 256)
-    × (r.b ≡ min (line_at (drop at text)).b 256)
-    × (r.c ≡ min (line_at (drop at text)).c 256)
-    × (r.length ≡ line_length (drop at text))) where
+module _ {text program₀ program rest : List ℕ} {lines : ℕ} {bytes : Bool} (h : SoFar text program₀ program rest lines bytes)
+    {r : ReadLine} (found : read_line rest ≡ Some r) where
   abbrev l : Line
-  l = line_at (drop at text)
+  l = line_at rest
 
-  stands : Found (drop at text)
-  stands = line_stands (drop at text) (omega (arith, told.4))
+  told : r ≡ told_line rest
+  told = (line_told rest found).1
+
+  size : r.length ≡ line_length rest
+  size = ap (λ (x : ReadLine). x.length) told
+
+  stands : Found rest
+  stands = line_stands rest (has_some rest (line_told rest found).0)
 
   more_text : listing_text (h.list ++ (l ∷ [])) ≡ listing_text h.list ++ line_text l
   unfolding listing_text encode_items
   more_text = items_append line_text h.list (l ∷ []) ∙ ap (λ (t : List ℕ). listing_text h.list ++ t) (append-nil (line_text l))
 
-  more_spelled : text ≡ listing_text (h.list ++ (l ∷ [])) ++ drop (at + r.length) text
+  more_spelled : text ≡ listing_text (h.list ++ (l ∷ [])) ++ drop r.length rest
   more_spelled =
-      let rest : drop (line_length (drop at text)) (drop at text) ≡ drop (at + r.length) text = rw told.4 (drop-drop (line_length (drop at text)) at text) in
-      h.spelled
-      ∙ ap (λ (t : List ℕ). listing_text h.list ++ t) (stands.stands ∙ ap (λ (t : List ℕ). line_text l ++ t) rest)
-      ∙ sym (append_assoc (listing_text h.list) (line_text l) (drop (at + r.length) text))
-      ∙ ap (λ (t : List ℕ). t ++ drop (at + r.length) text) (sym more_text)
+      rw size
+      (h.spelled
+      ∙ ap (λ (t : List ℕ). listing_text h.list ++ t) stands.stands
+      ∙ sym (append_assoc (listing_text h.list) (line_text l) (drop (line_length rest) rest))
+      ∙ ap (λ (t : List ℕ). t ++ drop (line_length rest) rest) (sym more_text))
 
-  line_within : at + r.length ≤ length text
-  line_within =
-      omega (
-        arith,
-        told.4,
-        stands.size,
-        ap length stands.stands,
-        length-append (line_text l) (drop (line_length (drop at text)) (drop at text)),
-        length-drop at text,
-        h.inside,
-      )
+  -- the line is not empty, and within the rest
+  pub line_within : (0 < r.length) × (r.length ≤ length rest)
+  line_within = (
+    rw size (has_some rest (line_told rest found).0),
+    omega (arith, size, stands.size, ap length stands.stands, length-append (line_text l) (drop (line_length rest) rest)),
+  )
 
   more_bytes : (bytes && ltb r.a 256 && ltb r.b 256 && ltb r.c 256) ≡ all is_bytes (h.list ++ (l ∷ []))
   unfolding all
   more_bytes =
-      rw (told.1, told.2, told.3, below, below, below, all_append is_bytes h.list (l ∷ []), ← h.all_bytes)
+      rw (told, below, below, below, all_append is_bytes h.list (l ∷ []), ← h.all_bytes)
       (regroup bytes (leb l.a 255) (leb l.b 255) (leb l.c 255))
 
   same_kept : kept_line r ≡ kept_bytes l
-  same_kept = rw (told.0, told.1, told.2, told.3) refl
+  same_kept = rw told refl
 
   more_front : lines + 1 ≤ length (kept lines r program) / 4 → take (4 * (lines + 1)) (kept lines r program) ≡ encode_items kept_bytes (h.list ++ (l ∷ []))
   unfolding encode_items
@@ -149,14 +144,13 @@ module _ {text program₀ program : List ℕ} {at lines : ℕ} {bytes : Bool} (h
       let parts : take (4 * lines) program ++ kept_line r ≡ encode_items kept_bytes h.list ++ kept_bytes l = rw (h.front (omega arith), same_kept) refl in
       front ∙ parts ∙ sym (items_append kept_bytes h.list (l ∷ []))
 
-  pub so_far_more : SoFar text program₀ (kept lines r program) (at + r.length) (lines + 1) (bytes && ltb r.a 256 && ltb r.b 256 && ltb r.c 256)
+  pub so_far_more : SoFar text program₀ (kept lines r program) (drop r.length rest) (lines + 1) (bytes && ltb r.a 256 && ltb r.b 256 && ltb r.c 256)
   so_far_more = record {
     list = h.list ++ (l ∷ []);
     known = every_append Known h.list (l ∷ []) h.known (stands.known, tt);
     spelled = more_spelled;
-    inside = line_within;
     counted = omega (arith, h.counted, length-append h.list (l ∷ []));
-    few = omega (arith, h.few);
+    few = omega (arith, h.few, length-drop r.length rest, line_within);
     all_bytes = more_bytes;
     front = more_front;
     same = length_kept program lines r ∙ h.same;
@@ -164,10 +158,10 @@ module _ {text program₀ program : List ℕ} {at lines : ℕ} {bytes : Bool} (h
 
 -- ---- the end of the text, or what is no line
 
-module _ {text program₀ program : List ℕ} {at lines : ℕ} {bytes : Bool} (h : SoFar text program₀ program at lines bytes) where
-  pub so_far_all : length text ≤ at → Kept text program lines bytes
+module _ {text program₀ program rest : List ℕ} {lines : ℕ} {bytes : Bool} (h : SoFar text program₀ program rest lines bytes) where
+  pub so_far_all : length rest ≡ 0 → Kept text program lines bytes
   so_far_all end =
-      let whole : text ≡ listing_text h.list = h.spelled ∙ rw (drop_of_length-le text {i = at} end) (append-nil (listing_text h.list)) in
+      let whole : text ≡ listing_text h.list = h.spelled ∙ rw (length_nil rest end) (append-nil (listing_text h.list)) in
       record {
         list = h.list;
         spells = record { words = h.known; spelled = sym whole };
@@ -176,5 +170,5 @@ module _ {text program₀ program : List ℕ} {at lines : ℕ} {bytes : Bool} (h
         front = h.front;
       }
 
-  pub so_far_stops : at < length text → line_length (drop at text) ≡ 0 → (ls : List Line) → Spells ls text → ⊥
-  so_far_stops more stop = no_list h.list (drop at text) text h.known h.spelled (omega (arith, length-drop at text)) stop
+  pub so_far_stops : 0 < length rest → read_line rest ≡ None → (ls : List Line) → Spells ls text → ⊥
+  so_far_stops more stop = no_list h.list rest text h.known h.spelled more (none_told rest stop)

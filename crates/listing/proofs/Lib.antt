@@ -2,6 +2,7 @@
 pub mod Lines
 pub mod Keeping
 pub mod Program
+pub mod Chunks
 pub mod Lengths
 pub mod Texts
 pub mod Assembled

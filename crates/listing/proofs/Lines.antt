@@ -3,6 +3,7 @@ use Prim.Native.Nat.{ℕ, suc, ◌+◌, ◌<◌, ◌≤◌}
 use mathlib.Core.Path.{◌≡◌, refl, sym, ap, ◌∙◌}
 use mathlib.Core.Bool.{true, false}
 use mathlib.Core.List.{List, [], ◌∷◌, ◌++◌, append-nil, append_assoc}
+use Rattle.std.specs.Prelude.{Some, None}
 use native.Mathlib.Nat.{not-suc-le-zero}
 use native.Mathlib.Numerals.{add-one}
 use native.Mathlib.Omega.{arith}
@@ -21,7 +22,8 @@ use Rattle.word.specs.Word.{word_of}
 use Rattle.word.specs.Inner.{code_of}
 use Rattle.word.proofs.Words.{word_code, word_no_space, code_word}
 use Rattle.listing.specs.Listing.{Line, line_text}
-use Rattle.listing.specs.Inner.{behind_word, behind_number, line_at, has_line, line_length}
+use Rattle.listing.specs.declared.ReadLine.{ReadLine}
+use Rattle.listing.specs.Inner.{behind_word, behind_number, line_at, has_line, line_length, told_line, read_line}
 
 -- with s between the parts and e at the end
 joined : (w s p q r e rest : List ℕ)
@@ -182,11 +184,31 @@ module _ (b : List ℕ) (e : has_line b ≡ true) where
   unfolding line_length
   has_length = rw e
 
+  pub has_some : 0 < line_length b
+  has_some = omega (arith, has_length)
+
   pub has_inside : sum ≤ length b
   has_inside =
-      let f = line_stands b (omega (arith, has_length)) in
+      let f = line_stands b has_some in
       omega (arith, has_length, f.size, ap length f.stands, length-append (line_text (line_at b)) (drop (line_length b) b))
 
-pub has_none : (b : List ℕ) → has_line b ≡ false → line_length b ≡ 0
-unfolding line_length
-has_none b e = rw e
+-- ---- what is told of the line at the front of b
+
+module _ (b : List ℕ) where
+  pub line_told : {r : ReadLine} → read_line b ≡ Some r → (has_line b ≡ true) × (r ≡ told_line b)
+  unfolding read_line
+  line_told {r} e =
+      split (has_line b)
+      (λ t. let found : Some (told_line b) ≡ Some r = rw t at e in (t, cc))
+      (λ t. let found : None ≡ Some r = rw t at e in cc)
+
+  has_none : has_line b ≡ false → line_length b ≡ 0
+  unfolding line_length
+  has_none e = rw e
+
+  pub none_told : read_line b ≡ None → line_length b ≡ 0
+  unfolding read_line
+  none_told e =
+      split (has_line b)
+      (λ t. let found : Some (told_line b) ≡ None = rw t at e in cc)
+      (λ t. has_none t)

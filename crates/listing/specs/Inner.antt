@@ -1,6 +1,6 @@
 -- Definitions for contracts of functions that are no calls, which no claim and no call's promise reaches: what is read at the front of
 -- a text, and what is kept of a text that was read.
-use Rattle.std.specs.Prelude.{ℕ, ◌+◌, ◌*◌, ◌/◌, ◌%◌, ◌≤◌, min, ◌≡◌, Bool, true, false, cond, ◌&&◌, List, [], ◌∷◌, ◌++◌, leb, ltb, length, take, drop}
+use Rattle.std.specs.Prelude.{ℕ, ◌+◌, ◌*◌, ◌/◌, ◌%◌, ◌≤◌, min, ◌≡◌, Bool, Option, Some, None, cond, ◌&&◌, List, [], ◌∷◌, ◌++◌, leb, ltb, length, take, drop}
 use Rattle.wire.specs.Lists.{all}
 use Rattle.wire.specs.Items.{encode_items}
 use Rattle.text.specs.Inner.{ahead, number_length, number_value}
@@ -9,6 +9,7 @@ use Rattle.instruction.specs.Program.{count}
 use Rattle.word.specs.Inner.{code_of}
 use Rattle.image.specs.Refusal.{◌then◌, unless, instructions_number}
 use Rattle.listing.specs.declared.ReadLine.{ReadLine}
+use Rattle.listing.specs.declared.ReadText.{ReadText}
 use Rattle.listing.specs.Listing.{Line, line, Spells, is_bytes}
 
 -- ---- a line
@@ -45,6 +46,14 @@ line_length b =
     + number_length 10 (behind_number (behind_number (behind_word b))))
     0
 
+-- the line that the code tells there: each number 256 where it is above 255, and how many bytes it has
+abbrev pub told_line : List ℕ → ReadLine
+told_line b =
+    record { code = (line_at b).code; a = min (line_at b).a 256; b = min (line_at b).b 256; c = min (line_at b).c 256; length = line_length b }
+
+unfoldable pub read_line : List ℕ → Option ReadLine
+read_line b = cond (has_line b) (Some (told_line b)) None
+
 -- ---- what is kept of lines: four bytes each, and whether all their numbers are bytes
 
 abbrev pub kept_byte : ℕ → ℕ
@@ -69,9 +78,9 @@ pub record Kept (text program : List ℕ) (lines : ℕ) (bytes : Bool) : Type 0 
   pub front : lines ≤ length program / 4 → take (4 * lines) program ≡ encode_items kept_bytes list
 
 -- a text that was read to its end, or to where no line stands
-abbrev pub IsRead : Bool → List ℕ → List ℕ → ℕ → Bool → Type 0
-IsRead true text program lines bytes = Kept text program lines bytes
-IsRead false text program lines bytes = (ls : List Line) → Spells ls text → ⊥
+abbrev pub IsRead : List ℕ → List ℕ → Option ReadText → Type 0
+IsRead text program (Some read) = Kept text program read.lines read.bytes
+IsRead text program None = (ls : List Line) → Spells ls text → ⊥
 
 -- what is refused of lines that are kept so: 5, then 6
 abbrev pub kept_number : List ℕ → ℕ → Bool → ℕ

@@ -2,12 +2,12 @@
 // lister, turns it back.
 #![tactic(auto)]
 
-ghost use Rattle.std.specs.Prelude.{◌≤◌, min, ◌≡◌, length};
+ghost use Rattle.std.specs.Prelude.{◌≤◌, ◌≡◌, length};
 ghost use Rattle.wire.specs.Output.{overwrite};
 ghost use Rattle.wire.specs.Inner.{written};
 ghost use Rattle.monitor.specs.Calls.{output_answer, CallPromise};
-ghost use Rattle.listing.specs.Listing.{line, line_text, listing_text, AssemblePromise, part_number, lines_of, disassemble_call};
-ghost use Rattle.listing.specs.Inner.{line_at, line_length, kept, IsRead, kept_number};
+ghost use Rattle.listing.specs.Listing.{line_text, listing_text, line_of, AssemblePromise, part_number, lines_of, disassemble_call};
+ghost use Rattle.listing.specs.Inner.{read_line, kept, IsRead, kept_number};
 
 // No program is longer, in bytes: 256 instructions of four.
 pub const PROGRAM_MAX: usize = 1024;
@@ -17,7 +17,7 @@ pub const LISTING_MAX: usize = 4352;
 
 // ---- the writer
 
-// A line that was read: its code, its numbers, each 256 where it is above 255, and how many bytes it has; 0 where no line was found.
+// A line that was read: its code, its numbers, each 256 where it is above 255, and how many bytes it has.
 #[derive(Clone, Copy)]
 struct ReadLine {
     code: u8,
@@ -27,26 +27,9 @@ struct ReadLine {
     length: usize,
 }
 
-// A line by its parts.
-fn made(code: u8, a: usize, b: usize, c: usize, length: usize) -> ReadLine
-    ensures { result ≡ record { code = code; a = a; b = b; c = c; length = length } }
-{
-    ReadLine {
-        code: code,
-        a: a,
-        b: b,
-        c: c,
-        length: length,
-    }
-}
-
-// Reads the line at the front of a text.
-fn read_line(s: &[u8]) -> ReadLine
-    ensures { (result.code ≡ (line_at s.now).code)
-        × (result.a ≡ min (line_at s.now).a 256)
-        × (result.b ≡ min (line_at s.now).b 256)
-        × (result.c ≡ min (line_at s.now).c 256)
-        × (result.length ≡ line_length s.now) }
+// Reads the line at the front of a text, where one stands there.
+fn read_line(s: &[u8]) -> Option<ReadLine>
+    ensures { result ≡ read_line s.now }
 {
     let word = wire::take(s, wire::index_of(s, b' '));
     let code = word::code_of(word);
@@ -58,22 +41,21 @@ fn read_line(s: &[u8]) -> ReadLine
     let behind_b = wire::drop(behind_a, b.length);
     let c = text::read_number(behind_b, b'\n');
     if (code < word::WORDS) & (0 < a.length) & (0 < b.length) & (0 < c.length) {
-        made(
+        Some(ReadLine {
             code,
-            a.value,
-            b.value,
-            c.value,
-            n + a.length + b.length + c.length,
-        )
+            a: a.value,
+            b: b.value,
+            c: c.value,
+            length: n + a.length + b.length + c.length,
+        })
     } else {
-        made(code, a.value, b.value, c.value, 0)
+        None
     }
 }
 
-// What was read of a text: whether it is a list of lines, how many they are, and whether all their numbers are bytes.
-#[derive(Drop)]
+// What was read of a list of lines: how many they are, and whether all their numbers are bytes.
+#[derive(Clone, Copy)]
 struct ReadText {
-    list: bool,
     lines: usize,
     bytes: bool,
 }
@@ -95,32 +77,21 @@ fn keep_line(program: &mut [u8], lines: usize, line: ReadLine)
     }
 }
 
-// Reads a whole text, and keeps its lines where the program has room for them.
-fn read_text(program: &mut [u8], text: &[u8]) -> ReadText
-    ensures { IsRead result.list text.now program.new result.lines result.bytes }
+// Reads a whole text, where it is a list of lines, and keeps them where the program has room for them.
+fn read_text(program: &mut [u8], text: &[u8]) -> Option<ReadText>
+    ensures { IsRead text.now program.new result }
 {
-    let mut at: usize = 0;
+    let mut rest = text;
     let mut lines: usize = 0;
     let mut bytes = true;
-    while at < text.len() {
-        let line = read_line(&text[at..]);
-        if line.length == 0 {
-            return ReadText {
-                list: false,
-                lines: lines,
-                bytes: bytes,
-            };
-        }
+    while !rest.is_empty() {
+        let line = read_line(rest)?;
         keep_line(program, lines, line);
         lines += 1;
         bytes = bytes & (line.a < 256) & (line.b < 256) & (line.c < 256);
-        at += line.length;
+        rest = &rest[line.length..];
     }
-    ReadText {
-        list: true,
-        lines: lines,
-        bytes: bytes,
-    }
+    Some(ReadText { lines, bytes })
 }
 
 // What is refused of the lines that were kept: 5, then 6.
@@ -152,17 +123,15 @@ pub fn assemble(text: &[u8], out: &mut [u8]) -> monitor::Answer
     ensures { AssemblePromise text.now out.old result out.new }
 {
     let mut program: [u8; PROGRAM_MAX] = [0; PROGRAM_MAX];
-    let read = read_text(&mut program, text);
-    if read.list {
-        let number = lines_number(&program, read.lines, read.bytes);
-        if number == 0 {
-            let n = 4 * read.lines;
-            write_answer(out, &program[..n])
-        } else {
-            monitor::refused(number)
-        }
+    let Some(read) = read_text(&mut program, text) else {
+        return monitor::refused(16);
+    };
+    let number = lines_number(&program, read.lines, read.bytes);
+    if number == 0 {
+        let n = 4 * read.lines;
+        write_answer(out, &program[..n])
     } else {
-        monitor::refused(16)
+        monitor::refused(number)
     }
 }
 
@@ -179,13 +148,19 @@ fn part_number(program: &[u8]) -> u8
     }
 }
 
-// Writes a line: how many bytes.
-fn put_line(out: &mut [u8], code: u8, a: u8, b: u8, c: u8) -> usize
-    requires { length (line_text (line code a b c)) ≤ length out.old }
-    ensures { (result ≡ length (line_text (line code a b c))) × (out.new ≡ overwrite (line_text (line code a b c)) out.old) }
+// Writes the line of an instruction's bytes: how many bytes.
+fn put_line(out: &mut [u8], instruction: &[u8]) -> usize
+    requires { (length instruction.now ≡ 4) × (length (line_text (line_of instruction.now)) ≤ length out.old) }
+    ensures { (result ≡ length (line_text (line_of instruction.now)))
+        × (out.new ≡ overwrite (line_text (line_of instruction.now)) out.old) }
 {
-    let n = word::put(out, code);
-    n + text::put_line_rest(&mut out[n..], &[a as u32, b as u32, c as u32])
+    let n = word::put(out, instruction[0]);
+    let operands = [
+        u32::from(instruction[1]),
+        u32::from(instruction[2]),
+        u32::from(instruction[3]),
+    ];
+    n + text::put_line_rest(&mut out[n..], &operands)
 }
 
 // Writes the lines of a program's bytes: how many bytes.
@@ -194,19 +169,9 @@ fn put_lines(out: &mut [u8], program: &[u8]) -> usize
     ensures { (result ≡ length (listing_text (lines_of program.now)))
         × (out.new ≡ overwrite (listing_text (lines_of program.now)) out.old) }
 {
-    let lines = program.len() / 4;
     let mut at: usize = 0;
-    let mut i: usize = 0;
-    while i < lines {
-        let k = 4 * i;
-        at += put_line(
-            &mut out[at..],
-            program[k],
-            program[k + 1],
-            program[k + 2],
-            program[k + 3],
-        );
-        i += 1;
+    for instruction in program.chunks_exact(4) {
+        at += put_line(&mut out[at..], instruction);
     }
     at
 }

@@ -1,7 +1,7 @@
 -- `listing::read_line` meets its contract: each part is read behind the one before it.
 use Prim.Native.Nat.{ℕ, ◌+◌, ◌≤◌, min}
 use mathlib.Core.Path.{◌≡◌, refl, sym, ap, ◌∙◌}
-use mathlib.Core.Bool.{Bool, true, ◌&&◌}
+use mathlib.Core.Bool.{Bool, true, false, ◌&&◌}
 use mathlib.Core.List.{List}
 use native.Mathlib.Omega.{arith}
 use lib.Dec.{eqb, ltb}
@@ -11,8 +11,9 @@ use Rattle.text.specs.Inner.{ahead, number_length, number_value}
 use Rattle.text.specs.declared.Number.{Number}
 use Rattle.instruction.specs.Table.{table}
 use Rattle.word.specs.Inner.{code_of}
-use Rattle.listing.specs.Inner.{behind_word, behind_number, line_at, has_line, line_length}
-use Rattle.listing.proofs.Lines.{has_length, has_inside, has_none}
+use Rattle.std.specs.Prelude.{Some, None}
+use Rattle.listing.specs.Inner.{behind_word, behind_number, line_at, has_line, line_length, read_line}
+use Rattle.listing.proofs.Lines.{has_length, has_inside}
 use Rattle.listing.proofs.read_line.Goals as goal
 
 -- what was read of the line at the front of s: its word and code, and three numbers
@@ -58,46 +59,55 @@ module _ {s word : List ℕ} {code : ℕ} {a b c : Number} (p : Parts s word cod
   unfolding has_line
   met = rw (p.code_is, p.a_length, p.b_length, p.c_length) refl
 
+  abbrev sum : ℕ
+  sum = length word + 1 + a.length + b.length + c.length
+
   -- where they pass, the bytes of the line are within the text
-  inside : tests ≡ true → length word + 1 + a.length + b.length + c.length ≤ length s
+  inside : tests ≡ true → sum ≤ length s
   inside e = rw (p.a_length, p.b_length, p.c_length, ← p.word_is) (has_inside s (met ∙ e))
 
-  total : tests ≡ true → length word + 1 + a.length + b.length + c.length ≡ line_length s
+  total : tests ≡ true → sum ≡ line_length s
   total e = rw (p.a_length, p.b_length, p.c_length, ← p.word_is) (sym (has_length s (met ∙ e)))
 
-pub overflow_add-n-then-code-a : goal.overflow_add-n-then-code-a
-overflow_add-n-then-code-a c =
+  found : tests ≡ true → Some (record { code = code; a = a.value; b = b.value; c = c.value; length = sum }) ≡ read_line s
+  unfolding line_at read_line
+  found e = rw (p.code_is, p.a_value, p.b_value, p.c_value, total e, met, e) refl
+
+  none : tests ≡ false → None ≡ read_line s
+  unfolding read_line
+  none e = rw (met, e) refl
+
+pub overflow_add-result : goal.overflow_add-result
+overflow_add-result c =
     let p = parts c.args.s.now c.take-word.result.now c.index_of.result c.code_of-code.result c.read_number-a.result c.read_number-b.result c.read_number-c.result
     c.index_of.ensures c.take-word.ensures.0 c.code_of-code.ensures c.drop-behind_word.ensures.0 c.read_number-a.ensures c.drop-behind_a.ensures.0
     c.read_number-b.ensures c.drop-behind_b.ensures.0 c.read_number-c.ensures in
     omega (arith, inside p c.if-code-a.true, c.well_formed.0.0)
 
-pub overflow_add-n-then-code-a-2 : goal.overflow_add-n-then-code-a-2
-overflow_add-n-then-code-a-2 c =
+pub overflow_add-result-then-code-a : goal.overflow_add-result-then-code-a
+overflow_add-result-then-code-a c =
     let p = parts c.args.s.now c.take-word.result.now c.index_of.result c.code_of-code.result c.read_number-a.result c.read_number-b.result c.read_number-c.result
     c.index_of.ensures c.take-word.ensures.0 c.code_of-code.ensures c.drop-behind_word.ensures.0 c.read_number-a.ensures c.drop-behind_a.ensures.0
     c.read_number-b.ensures c.drop-behind_b.ensures.0 c.read_number-c.ensures in
     omega (arith, inside p c.if-code-a.true, c.well_formed.0.0)
 
-pub overflow_add-n-then-code-a-3 : goal.overflow_add-n-then-code-a-3
-overflow_add-n-then-code-a-3 c =
+pub overflow_add-result-then-code-a-2 : goal.overflow_add-result-then-code-a-2
+overflow_add-result-then-code-a-2 c =
     let p = parts c.args.s.now c.take-word.result.now c.index_of.result c.code_of-code.result c.read_number-a.result c.read_number-b.result c.read_number-c.result
     c.index_of.ensures c.take-word.ensures.0 c.code_of-code.ensures c.drop-behind_word.ensures.0 c.read_number-a.ensures c.drop-behind_a.ensures.0
     c.read_number-b.ensures c.drop-behind_b.ensures.0 c.read_number-c.ensures in
     omega (arith, inside p c.if-code-a.true, c.well_formed.0.0)
 
 pub returns-then-code-a : goal.returns-then-code-a
-unfolding line_at
 returns-then-code-a c =
     let p = parts c.args.s.now c.take-word.result.now c.index_of.result c.code_of-code.result c.read_number-a.result c.read_number-b.result c.read_number-c.result
     c.index_of.ensures c.take-word.ensures.0 c.code_of-code.ensures c.drop-behind_word.ensures.0 c.read_number-a.ensures c.drop-behind_a.ensures.0
     c.read_number-b.ensures c.drop-behind_b.ensures.0 c.read_number-c.ensures in
-    rw c.made.ensures (p.code_is, p.a_value, p.b_value, p.c_value, total p c.if-code-a.true)
+    found p c.if-code-a.true
 
 pub returns-else-code-a : goal.returns-else-code-a
-unfolding line_at
 returns-else-code-a c =
     let p = parts c.args.s.now c.take-word.result.now c.index_of.result c.code_of-code.result c.read_number-a.result c.read_number-b.result c.read_number-c.result
     c.index_of.ensures c.take-word.ensures.0 c.code_of-code.ensures c.drop-behind_word.ensures.0 c.read_number-a.ensures c.drop-behind_a.ensures.0
     c.read_number-b.ensures c.drop-behind_b.ensures.0 c.read_number-c.ensures in
-    rw c.made-else-code-a.ensures (p.code_is, p.a_value, p.b_value, p.c_value, sym (has_none c.args.s.now (met p ∙ c.if-code-a.false)))
+    none p c.if-code-a.false

@@ -1,48 +1,39 @@
-use mathlib.Core.Path.{sym, ◌∙◌}
+-- `listing::read_text` keeps its invariant: a line that is found is kept behind the others, and where none is no lines spell the text.
+use mathlib.Core.Path.{sym}
 use native.Mathlib.Omega.{arith}
+use borrow.Author.Tests.{eqb-true, eqb-false}
+use lib.ListN.{length, length-drop}
 use Rattle.wire.proofs.Output.{rest}
-use Rattle.listing.proofs.Keeping.{so_far_none, so_far_more, so_far_all, so_far_stops}
+use Rattle.listing.proofs.Keeping.{so_far_none, so_far_more, line_within, so_far_all, so_far_stops}
 use Rattle.listing.proofs.read_text.Goals as goal
 
-pub loop-at-init : goal.loop-at-init
-loop-at-init c = so_far_none _ _
+pub loop-rest-init : goal.loop-rest-init
+loop-rest-init c = so_far_none _ _
 
-pub returns-then-line-eq0 : goal.returns-then-line-eq0
-returns-then-line-eq0 c =
-    let told = rw rest at c.read_line-line.ensures in
-    so_far_stops c.loop-at.invariant (omega arith) (sym told.4 ∙ c.if-line-eq0.true)
+pub returns-in_err-line : goal.returns-in_err-line
+returns-in_err-line c =
+    rw c.from_residual.ensures
+    (so_far_stops c.loop-rest.invariant (omega (arith, eqb-false (length c.loop-rest.rest.now) 0 (sym c.loop-rest-test.ensures))) (sym c.in_err-line.ensures))
 
-pub shape_of-program-then-line-eq0 : goal.shape_of-program-then-line-eq0
-shape_of-program-then-line-eq0 c = c.loop-at.invariant.same
+pub slice_bounds-rest-count : goal.slice_bounds-rest-count
+slice_bounds-rest-count c = (line_within c.loop-rest.invariant (sym c.in_ok-line.ensures)).1
 
--- one line more
+pub slice_bounds-rest-start : goal.slice_bounds-rest-start
+slice_bounds-rest-start c = (line_within c.loop-rest.invariant (sym c.in_ok-line.ensures)).1
 
 pub overflow_add-lines : goal.overflow_add-lines
 overflow_add-lines c =
-    let told = rw rest at c.read_line-line.ensures in
-    let more = so_far_more c.loop-at.invariant c.read_line-line.result (omega (arith, c.if-line-eq0.false)) told in
-    omega (arith, more.few, more.inside, c.well_formed.1.0)
+    let h = c.loop-rest.invariant in
+    let within = line_within h (sym c.in_ok-line.ensures) in
+    omega (arith, within, h.few, c.well_formed.1.0)
 
-pub overflow_add-at : goal.overflow_add-at
-overflow_add-at c =
-    let told = rw rest at c.read_line-line.ensures in
-    let more = so_far_more c.loop-at.invariant c.read_line-line.result (omega (arith, c.if-line-eq0.false)) told in
-    omega (arith, more.inside, c.well_formed.1.0)
+pub loop-rest-smaller : goal.loop-rest-smaller
+loop-rest-smaller c =
+    let within = line_within c.loop-rest.invariant (sym c.in_ok-line.ensures) in
+    rw rest (omega (arith, within, length-drop c.in_ok-line.line.length c.loop-rest.rest.now))
 
-pub loop-at-smaller : goal.loop-at-smaller
-loop-at-smaller c =
-    let told = rw rest at c.read_line-line.ensures in
-    let more = so_far_more c.loop-at.invariant c.read_line-line.result (omega (arith, c.if-line-eq0.false)) told in
-    omega (arith, more.inside, c.if-line-eq0.false)
-
-pub loop-at-preserved : goal.loop-at-preserved
-loop-at-preserved c =
-    let told = rw rest at c.read_line-line.ensures in
-    let more = so_far_more c.loop-at.invariant c.read_line-line.result (omega (arith, c.if-line-eq0.false)) told in
-    rw c.keep_line.ensures more
-
-pub shape_of-program : goal.shape_of-program
-shape_of-program c = c.loop-at.invariant.same
+pub loop-rest-preserved : goal.loop-rest-preserved
+loop-rest-preserved c = rw (rest, c.keep_line.ensures) (so_far_more c.loop-rest.invariant (sym c.in_ok-line.ensures))
 
 pub returns : goal.returns
-returns c = so_far_all c.loop-at.invariant (omega arith)
+returns c = so_far_all c.loop-rest.invariant (eqb-true _ 0 (sym c.loop-rest-test.ensures))

@@ -1,11 +1,10 @@
--- `listing::read_text` meets its contract: the lines that were read so far are those of the text up to the byte `at`, and are kept.
-use Prim.Native.Nat.{◌-◌}
+-- `listing::read_text` meets its contract: the lines that were read so far are those of the text ahead of its rest, and are kept.
 use lib.ListN.{length}
 use Rattle.listing.proofs.Keeping.{SoFar}
 use Rattle.listing.proofs.read_text.Given as goal
 
-abbrev pub invariant-loop-at : goal.invariant-loop-at
-invariant-loop-at l = SoFar l.text l.initial.program l.program l.at l.lines l.bytes
+abbrev pub invariant-loop-rest : goal.invariant-loop-rest
+invariant-loop-rest l = SoFar l.text l.initial.program l.program l.rest l.lines l.bytes
 
-abbrev pub decreases-loop-at : goal.decreases-loop-at
-decreases-loop-at l = length l.text - l.at
+abbrev pub decreases-loop-rest : goal.decreases-loop-rest
+decreases-loop-rest l = length l.rest
