@@ -127,20 +127,29 @@ pub record Found (b : List ℕ) : Type 0 where
   pub stands : b ≡ line_text (line_at b) ++ drop (line_length b) b
   pub size : line_length b ≡ length (line_text (line_at b))
 
+-- a code of the table and three numbers
+pub line_parts : (b : List ℕ) → has_line b ≡ true
+    → (code_of (ahead 32 b) < length table)
+    × (0 < number_length 32 (behind_word b))
+    × (0 < number_length 32 (behind_number (behind_word b)))
+    × (0 < number_length 10 (behind_number (behind_number (behind_word b))))
+unfolding has_line
+line_parts b e =
+    let abc = and_both _ (ltb 0 (number_length 10 (behind_number (behind_number (behind_word b))))) e in
+    let ab = and_both _ (ltb 0 (number_length 32 (behind_number (behind_word b)))) abc.0 in
+    let a = and_both _ (ltb 0 (number_length 32 (behind_word b))) ab.0 in
+    (ltb-true _ _ a.0, ltb-true _ _ a.1, ltb-true _ _ ab.1, ltb-true _ _ abc.1)
+
+line_there : (b : List ℕ) → 0 < line_length b → has_line b ≡ true
+unfolding line_length
+line_there b found = split (has_line b) (λ e. e) (λ e. absurd (not-suc-le-zero (rw e at found)))
+
 module _ (b : List ℕ) (found : 0 < line_length b) where
-  tests : (code_of (ahead 32 b) < length table)
+  abbrev tests : (code_of (ahead 32 b) < length table)
       × (0 < number_length 32 (behind_word b))
       × (0 < number_length 32 (behind_number (behind_word b)))
       × (0 < number_length 10 (behind_number (behind_number (behind_word b))))
-  unfolding line_length has_line
-  tests =
-      split (has_line b)
-      (λ e.
-      let abc = and_both _ (ltb 0 (number_length 10 (behind_number (behind_number (behind_word b))))) e in
-      let ab = and_both _ (ltb 0 (number_length 32 (behind_number (behind_word b)))) abc.0 in
-      let a = and_both _ (ltb 0 (number_length 32 (behind_word b))) ab.0 in
-      (ltb-true _ _ a.0, ltb-true _ _ a.1, ltb-true _ _ ab.1, ltb-true _ _ abc.1))
-      (λ e. absurd (not-suc-le-zero (rw e at found)))
+  tests = line_parts b (line_there b found)
 
   -- a byte ends the word, since a number stands behind it
   word_ends : length (ahead 32 b) < length b

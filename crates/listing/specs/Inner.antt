@@ -1,6 +1,8 @@
 -- Definitions for contracts of functions that are no calls, which no claim and no call's promise reaches: what is read at the front of
 -- a text, and what is kept of a text that was read.
-use Rattle.std.specs.Prelude.{ℕ, ◌+◌, ◌*◌, ◌/◌, ◌%◌, ◌≤◌, min, ◌≡◌, Bool, Option, Some, None, cond, ◌&&◌, List, [], ◌∷◌, ◌++◌, leb, ltb, length, take, drop}
+use Rattle.std.specs.Prelude.{ℕ, ◌+◌, ◌*◌, ◌/◌, ◌%◌, ◌≤◌, min, ◌≡◌, Bool, Option, Some, None, Result, Ok, Err, cond, ◌&&◌, List, [], ◌∷◌, ◌++◌, leb, ltb, length, take, drop}
+use Rattle.refusal.specs.declared.Refusal.{Refusal}
+use Rattle.refusal.specs.declared.Refusal.TheVariants.{Text}
 use Rattle.wire.specs.Lists.{all}
 use Rattle.wire.specs.Items.{encode_items}
 use Rattle.text.specs.Inner.{ahead, number_length, number_value}
@@ -78,9 +80,9 @@ pub record Kept (text program : List ℕ) (lines : ℕ) (bytes : Bool) : Type 0 
   pub front : lines ≤ length program / 4 → take (4 * lines) program ≡ encode_items kept_bytes list
 
 -- a text that was read to its end, or to where no line stands
-abbrev pub IsRead : List ℕ → List ℕ → Option ReadText → Type 0
-IsRead text program (Some read) = Kept text program read.lines read.bytes
-IsRead text program None = (ls : List Line) → Spells ls text → ⊥
+abbrev pub IsRead : List ℕ → List ℕ → Result ReadText Refusal → Type 0
+IsRead text program (Ok read) = Kept text program read.lines read.bytes
+IsRead text program (Err r) = (r ≡ Text) × ((ls : List Line) → Spells ls text → ⊥)
 
 -- what is refused of lines that are kept so: 5, then 6
 abbrev pub kept_number : List ℕ → ℕ → Bool → ℕ

@@ -5,9 +5,13 @@
 ghost use Rattle.std.specs.Prelude.{◌≤◌, ◌≡◌, length};
 ghost use Rattle.wire.specs.Output.{overwrite};
 ghost use Rattle.wire.specs.Inner.{written};
-ghost use Rattle.monitor.specs.Calls.{output_answer, CallPromise};
+ghost use Rattle.refusal.specs.Refusal.{number};
+ghost use Rattle.monitor.specs.Calls.{output_answer, told, CallPromise};
 ghost use Rattle.listing.specs.Listing.{line_text, listing_text, line_of, AssemblePromise, part_number, lines_of, disassemble_call};
 ghost use Rattle.listing.specs.Inner.{read_line, kept, IsRead, kept_number};
+
+use monitor::Written;
+use refusal::Refusal;
 
 // No program is longer, in bytes: 256 instructions of four.
 pub const PROGRAM_MAX: usize = 1024;
@@ -32,25 +36,21 @@ fn read_line(s: &[u8]) -> Option<ReadLine>
     ensures { result ≡ read_line s.now }
 {
     let word = wire::take(s, wire::index_of(s, b' '));
-    let code = word::code_of(word);
+    let code = word::code_of(word)?;
     let n = word.len() + 1;
     let behind_word = wire::drop(s, n);
-    let a = text::read_number(behind_word, b' ');
+    let a = text::read_number(behind_word, b' ')?;
     let behind_a = wire::drop(behind_word, a.length);
-    let b = text::read_number(behind_a, b' ');
+    let b = text::read_number(behind_a, b' ')?;
     let behind_b = wire::drop(behind_a, b.length);
-    let c = text::read_number(behind_b, b'\n');
-    if (code < word::WORDS) & (0 < a.length) & (0 < b.length) & (0 < c.length) {
-        Some(ReadLine {
-            code,
-            a: a.value,
-            b: b.value,
-            c: c.value,
-            length: n + a.length + b.length + c.length,
-        })
-    } else {
-        None
-    }
+    let c = text::read_number(behind_b, b'\n')?;
+    Some(ReadLine {
+        code,
+        a: a.value,
+        b: b.value,
+        c: c.value,
+        length: n + a.length + b.length + c.length,
+    })
 }
 
 // What was read of a list of lines: how many they are, and whether all their numbers are bytes.
@@ -78,74 +78,65 @@ fn keep_line(program: &mut [u8], lines: usize, line: ReadLine)
 }
 
 // Reads a whole text, where it is a list of lines, and keeps them where the program has room for them.
-fn read_text(program: &mut [u8], text: &[u8]) -> Option<ReadText>
+fn read_text(program: &mut [u8], text: &[u8]) -> Result<ReadText, Refusal>
     ensures { IsRead text.now program.new result }
 {
     let mut rest = text;
     let mut lines: usize = 0;
     let mut bytes = true;
     while !rest.is_empty() {
-        let line = read_line(rest)?;
+        let line = read_line(rest).ok_or(Refusal::Text)?;
         keep_line(program, lines, line);
         lines += 1;
         bytes = bytes & (line.a < 256) & (line.b < 256) & (line.c < 256);
         rest = &rest[line.length..];
     }
-    Some(ReadText { lines, bytes })
+    Ok(ReadText { lines, bytes })
 }
 
-// What is refused of the lines that were kept: 5, then 6.
-fn lines_number(program: &[u8], lines: usize, bytes: bool) -> u8
-    ensures { result ≡ kept_number program.now lines bytes }
+// What is refused of the lines that were kept: how many they are, then their operands.
+fn check_lines(program: &[u8], read: ReadText) -> Result<(), Refusal>
+    ensures { number result ≡ kept_number program.now read.lines read.bytes }
 {
-    if (1 <= lines) & (lines <= 256) {
-        if bytes {
-            judge::instructions_number(wire::take(program, 4 * lines))
-        } else {
-            6
-        }
-    } else {
-        5
+    if !(1..=256).contains(&read.lines) {
+        return Err(Refusal::ProgramLength);
     }
+    if !read.bytes {
+        return Err(Refusal::Instruction);
+    }
+    judge::check_instructions(wire::take(program, 4 * read.lines))
 }
 
-// Ends a call that refuses nothing it read: writes the answer, or tells 13 where the output has no room for it.
-fn write_answer(out: &mut [u8], answer: &[u8]) -> monitor::Answer
-    ensures { (result ≡ output_answer (length answer.now) 0 (length out.old))
+// Ends a call that refuses nothing it read: writes the answer where the output has room for it.
+fn write_answer(out: &mut [u8], answer: &[u8]) -> Result<Written, Refusal>
+    ensures { (told result ≡ output_answer (length answer.now) 0 (length out.old))
         × (out.new ≡ written answer.now out.old) }
 {
     wire::copy(out, answer);
-    monitor::answered(answer.len(), 0, out.len())
+    monitor::end_call(answer.len(), 0, out.len())
 }
 
 // Writes the program of a text.
-pub fn assemble(text: &[u8], out: &mut [u8]) -> monitor::Answer
-    ensures { AssemblePromise text.now out.old result out.new }
+pub fn assemble(text: &[u8], out: &mut [u8]) -> Result<Written, Refusal>
+    ensures { AssemblePromise text.now out.old (told result) out.new }
 {
     let mut program: [u8; PROGRAM_MAX] = [0; PROGRAM_MAX];
-    let Some(read) = read_text(&mut program, text) else {
-        return monitor::refused(16);
-    };
-    let number = lines_number(&program, read.lines, read.bytes);
-    if number == 0 {
-        let n = 4 * read.lines;
-        write_answer(out, &program[..n])
-    } else {
-        monitor::refused(number)
-    }
+    let read = read_text(&mut program, text)?;
+    check_lines(&program, read)?;
+    write_answer(out, &program[..4 * read.lines])
 }
 
 // ---- the lister
 
-// The number of a program's bytes: 5, then 6.
-fn part_number(program: &[u8]) -> u8
-    ensures { result ≡ part_number program.now }
+// What is refused of a program's bytes: how many they are, then their operands.
+#[tactic(auto, unfolding(crate::specs::Listing::part_number))]
+fn check_program(program: &[u8]) -> Result<(), Refusal>
+    ensures { number result ≡ part_number program.now }
 {
-    if image::is_program_length(program.len()) {
-        judge::instructions_number(program)
-    } else {
-        5
+    if !image::is_program_length(program.len()) {
+        return Err(Refusal::ProgramLength);
     }
+    judge::check_instructions(program)
 }
 
 // Writes the line of an instruction's bytes: how many bytes.
@@ -177,15 +168,11 @@ fn put_lines(out: &mut [u8], program: &[u8]) -> usize
 }
 
 // Writes the text of a program. It is made in a buffer of its own first: only then is its length known.
-pub fn disassemble(program: &[u8], out: &mut [u8]) -> monitor::Answer
-    ensures { CallPromise (disassemble_call program.now) out.old result out.new }
+pub fn disassemble(program: &[u8], out: &mut [u8]) -> Result<Written, Refusal>
+    ensures { CallPromise (disassemble_call program.now) out.old (told result) out.new }
 {
-    let number = part_number(program);
-    if number == 0 {
-        let mut text: [u8; LISTING_MAX] = [0; LISTING_MAX];
-        let n = put_lines(&mut text, program);
-        write_answer(out, &text[..n])
-    } else {
-        monitor::refused(number)
-    }
+    check_program(program)?;
+    let mut text: [u8; LISTING_MAX] = [0; LISTING_MAX];
+    let n = put_lines(&mut text, program);
+    write_answer(out, &text[..n])
 }

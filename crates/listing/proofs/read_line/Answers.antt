@@ -1,113 +1,134 @@
 -- `listing::read_line` meets its contract: each part is read behind the one before it.
-use Prim.Native.Nat.{ℕ, ◌+◌, ◌≤◌, min}
+use Prim.Native.Nat.{ℕ, ◌+◌, ◌<◌, ◌≤◌, min}
 use mathlib.Core.Path.{◌≡◌, refl, sym, ap, ◌∙◌}
-use mathlib.Core.Bool.{Bool, true, false, ◌&&◌}
+use mathlib.Core.Bool.{true}
 use mathlib.Core.List.{List}
 use native.Mathlib.Omega.{arith}
-use lib.Dec.{eqb, ltb}
+use borrow.Author.Tests.{lt-ltb}
+use lib.Dec.{eqb}
 use lib.ListN.{length, take, drop}
-use Rattle.wire.specs.Lists.{first_index}
-use Rattle.text.specs.Inner.{ahead, number_length, number_value}
-use Rattle.text.specs.declared.Number.{Number}
-use Rattle.instruction.specs.Table.{table}
-use Rattle.word.specs.Inner.{code_of}
 use Rattle.std.specs.Prelude.{Some, None}
+use Rattle.wire.specs.Lists.{first_index}
+use Rattle.wire.proofs.Lists.{split}
+use Rattle.text.specs.Inner.{ahead, number_length, number_value, number_read}
+use Rattle.text.specs.declared.Number.{Number}
+use Rattle.text.proofs.Reading.{number_some, number_none}
+use Rattle.instruction.specs.Table.{table}
+use Rattle.word.specs.Inner.{code_of, code_found}
+use Rattle.word.proofs.Words.{code_some, code_none}
 use Rattle.listing.specs.Inner.{behind_word, behind_number, line_at, has_line, line_length, read_line}
-use Rattle.listing.proofs.Lines.{has_length, has_inside}
+use Rattle.listing.proofs.Lines.{line_parts, has_length, has_inside}
 use Rattle.listing.proofs.read_line.Goals as goal
 
--- what was read of the line at the front of s: its word and code, and three numbers
-pub record Parts (s word : List ℕ) (code : ℕ) (a b c : Number) : Type 0 where
-  pub word_is : ahead 32 s ≡ word
-  pub code_is : code ≡ code_of (ahead 32 s)
-  pub a_length : a.length ≡ number_length 32 (behind_word s)
-  pub b_length : b.length ≡ number_length 32 (behind_number (behind_word s))
-  pub c_length : c.length ≡ number_length 10 (behind_number (behind_number (behind_word s)))
-  pub a_value : a.value ≡ min (number_value 32 (behind_word s)) 256
-  pub b_value : b.value ≡ min (number_value 32 (behind_number (behind_word s))) 256
-  pub c_value : c.value ≡ min (number_value 10 (behind_number (behind_number (behind_word s)))) 256
+-- where a part is missing, no line is there
+missing : (s : List ℕ) → (has_line s ≡ true → ⊥) → None ≡ read_line s
+unfolding read_line
+missing s f = split (has_line s) (λ t. absurd (f t)) (λ t. rw t)
 
--- what reading a number tells
-abbrev Told : Number → ℕ → List ℕ → Type 0
-Told n end s = (n.value ≡ min (number_value end s) 256) × (n.length ≡ number_length end s)
+abbrev sum : List ℕ → Number → Number → Number → ℕ
+sum word a b c = length word + 1 + a.length + b.length + c.length
 
-parts : (s word : List ℕ) (index code : ℕ) (a b c : Number) {on_a on_b on_c : List ℕ} → index ≡ first_index (λ y. eqb y 32) s → word ≡ take index s
-    → code ≡ code_of word → on_a ≡ drop (length word + 1) s → Told a 32 on_a → on_b ≡ drop a.length on_a → Told b 32 on_b
-    → on_c ≡ drop b.length on_b → Told c 10 on_c → Parts s word code a b c
-parts s word index code a b c found taken coded behind told_a behind_a told_b behind_b told_c =
-    let word_is : ahead 32 s ≡ word = sym (taken ∙ ap (λ (n : ℕ). take n s) found) in
-    let at_a : behind_word s ≡ _ = rw word_is (sym behind) in
-    let at_b : behind_number (behind_word s) ≡ _ = rw (at_a, ← told_a.1) (sym behind_a) in
-    let at_c : behind_number (behind_number (behind_word s)) ≡ _ = rw (at_b, ← told_b.1) (sym behind_b) in
-    record {
-      word_is = word_is;
-      code_is = rw word_is coded;
-      a_length = rw at_a told_a.1;
-      b_length = rw at_b told_b.1;
-      c_length = rw at_c told_c.1;
-      a_value = rw at_a told_a.0;
-      b_value = rw at_b told_b.0;
-      c_value = rw at_c told_c.0;
-    }
+-- the word of s, and what is behind it
+module _ (s : List ℕ) {word : List ℕ} {index : ℕ} (found : index ≡ first_index (λ y. eqb y 32) s) (taken : word ≡ take index s) where
+  word_is : ahead 32 s ≡ word
+  word_is = sym (taken ∙ ap (λ (n : ℕ). take n s) found)
 
-module _ {s word : List ℕ} {code : ℕ} {a b c : Number} (p : Parts s word code a b c) where
-  -- the tests of the code are those of the definition
-  abbrev tests : Bool
-  tests = ltb code (length table) && ltb 0 a.length && ltb 0 b.length && ltb 0 c.length
+  no_code : None ≡ code_found word → None ≡ read_line s
+  no_code e = missing s (λ t. omega (arith, (line_parts s t).0, code_none word (sym e), ap code_of word_is))
 
-  met : has_line s ≡ tests
-  unfolding has_line
-  met = rw (p.code_is, p.a_length, p.b_length, p.c_length) refl
+  module _ {on_a : List ℕ} (behind : on_a ≡ drop (length word + 1) s) where
+    a_on : behind_word s ≡ on_a
+    a_on = rw word_is (sym behind)
 
-  abbrev sum : ℕ
-  sum = length word + 1 + a.length + b.length + c.length
+    no_a : None ≡ number_read 32 on_a → None ≡ read_line s
+    no_a e = missing s (λ t. omega (arith, (line_parts s t).1, number_none 32 on_a (sym e), ap (number_length 32) a_on))
 
-  -- where they pass, the bytes of the line are within the text
-  inside : tests ≡ true → sum ≤ length s
-  inside e = rw (p.a_length, p.b_length, p.c_length, ← p.word_is) (has_inside s (met ∙ e))
+    module _ {a : Number} (a_told : Some a ≡ number_read 32 on_a) {on_b : List ℕ} (behind_a : on_b ≡ drop a.length on_a) where
+      abbrev a_some : (0 < number_length 32 on_a) × (a.value ≡ min (number_value 32 on_a) 256) × (a.length ≡ number_length 32 on_a)
+      a_some = number_some 32 on_a a (sym a_told)
 
-  total : tests ≡ true → sum ≡ line_length s
-  total e = rw (p.a_length, p.b_length, p.c_length, ← p.word_is) (sym (has_length s (met ∙ e)))
+      b_on : behind_number (behind_word s) ≡ on_b
+      b_on = rw (a_on, ← a_some.2) (sym behind_a)
 
-  found : tests ≡ true → Some (record { code = code; a = a.value; b = b.value; c = c.value; length = sum }) ≡ read_line s
-  unfolding line_at read_line
-  found e = rw (p.code_is, p.a_value, p.b_value, p.c_value, total e, met, e) refl
+      no_b : None ≡ number_read 32 on_b → None ≡ read_line s
+      no_b e = missing s (λ t. omega (arith, (line_parts s t).2, number_none 32 on_b (sym e), ap (number_length 32) b_on))
 
-  none : tests ≡ false → None ≡ read_line s
-  unfolding read_line
-  none e = rw (met, e) refl
+      module _ {b : Number} (b_told : Some b ≡ number_read 32 on_b) {on_c : List ℕ} (behind_b : on_c ≡ drop b.length on_b) where
+        abbrev b_some : (0 < number_length 32 on_b) × (b.value ≡ min (number_value 32 on_b) 256) × (b.length ≡ number_length 32 on_b)
+        b_some = number_some 32 on_b b (sym b_told)
+
+        c_on : behind_number (behind_number (behind_word s)) ≡ on_c
+        c_on = rw (b_on, ← b_some.2) (sym behind_b)
+
+        no_c : None ≡ number_read 10 on_c → None ≡ read_line s
+        no_c e = missing s (λ t. omega (arith, (line_parts s t).3, number_none 10 on_c (sym e), ap (number_length 10) c_on))
+
+        module _ {code : ℕ} {c : Number} (code_told : Some code ≡ code_found word) (c_told : Some c ≡ number_read 10 on_c) where
+          abbrev c_some : (0 < number_length 10 on_c) × (c.value ≡ min (number_value 10 on_c) 256) × (c.length ≡ number_length 10 on_c)
+          c_some = number_some 10 on_c c (sym c_told)
+
+          there : has_line s ≡ true
+          unfolding has_line
+          there =
+              let known = code_some word code (sym code_told) in
+              rw (c_on, b_on, a_on, word_is, ← known.0, lt-ltb code (length table) known.1, lt-ltb 0 _ a_some.0, lt-ltb 0 _ b_some.0, lt-ltb 0 _ c_some.0) refl
+
+          size : sum word a b c ≡ line_length s
+          size = rw (has_length s there, c_on, b_on, a_on, word_is, a_some.2, b_some.2, c_some.2) refl
+
+          inside : sum word a b c ≤ length s
+          inside = rw (a_some.2, b_some.2, c_some.2, ← c_on, ← b_on, ← a_on, ← word_is) (has_inside s there)
+
+          line_found : Some (record { code = code; a = a.value; b = b.value; c = c.value; length = sum word a b c }) ≡ read_line s
+          unfolding line_at read_line
+          line_found = rw (there, size, c_on, b_on, a_on, word_is, (code_some word code (sym code_told)).0, a_some.1, b_some.1, c_some.1) refl
+
+pub returns-in_err-code : goal.returns-in_err-code
+returns-in_err-code c = c.from_residual.ensures ∙ no_code c.args.s.now c.index_of.ensures c.take-word.ensures.0 c.in_err-code.ensures
+
+pub returns-in_err-a : goal.returns-in_err-a
+returns-in_err-a c =
+    c.from_residual-in_err-a.ensures ∙ no_a c.args.s.now c.index_of.ensures c.take-word.ensures.0 c.drop-behind_word.ensures.0 c.in_err-a.ensures
+
+pub returns-in_err-b : goal.returns-in_err-b
+returns-in_err-b c =
+    c.from_residual-in_err-b.ensures
+    ∙ no_b c.args.s.now c.index_of.ensures c.take-word.ensures.0 c.drop-behind_word.ensures.0 c.in_ok-a.ensures c.drop-behind_a.ensures.0 c.in_err-b.ensures
+
+pub returns-in_err-c : goal.returns-in_err-c
+returns-in_err-c c =
+    c.from_residual-in_err-c.ensures
+    ∙ no_c c.args.s.now c.index_of.ensures c.take-word.ensures.0 c.drop-behind_word.ensures.0 c.in_ok-a.ensures c.drop-behind_a.ensures.0 c.in_ok-b.ensures
+    c.drop-behind_b.ensures.0 c.in_err-c.ensures
 
 pub overflow_add-result : goal.overflow_add-result
 overflow_add-result c =
-    let p = parts c.args.s.now c.take-word.result.now c.index_of.result c.code_of-code.result c.read_number-a.result c.read_number-b.result c.read_number-c.result
-    c.index_of.ensures c.take-word.ensures.0 c.code_of-code.ensures c.drop-behind_word.ensures.0 c.read_number-a.ensures c.drop-behind_a.ensures.0
-    c.read_number-b.ensures c.drop-behind_b.ensures.0 c.read_number-c.ensures in
-    omega (arith, inside p c.if-code-a.true, c.well_formed.0.0)
+    omega (
+      arith,
+      inside c.args.s.now c.index_of.ensures c.take-word.ensures.0 c.drop-behind_word.ensures.0 c.in_ok-a.ensures c.drop-behind_a.ensures.0 c.in_ok-b.ensures
+          c.drop-behind_b.ensures.0 c.in_ok-code.ensures c.in_ok-c.ensures,
+      c.well_formed.0.0,
+    )
 
-pub overflow_add-result-then-code-a : goal.overflow_add-result-then-code-a
-overflow_add-result-then-code-a c =
-    let p = parts c.args.s.now c.take-word.result.now c.index_of.result c.code_of-code.result c.read_number-a.result c.read_number-b.result c.read_number-c.result
-    c.index_of.ensures c.take-word.ensures.0 c.code_of-code.ensures c.drop-behind_word.ensures.0 c.read_number-a.ensures c.drop-behind_a.ensures.0
-    c.read_number-b.ensures c.drop-behind_b.ensures.0 c.read_number-c.ensures in
-    omega (arith, inside p c.if-code-a.true, c.well_formed.0.0)
+pub overflow_add-result-2 : goal.overflow_add-result-2
+overflow_add-result-2 c =
+    omega (
+      arith,
+      inside c.args.s.now c.index_of.ensures c.take-word.ensures.0 c.drop-behind_word.ensures.0 c.in_ok-a.ensures c.drop-behind_a.ensures.0 c.in_ok-b.ensures
+          c.drop-behind_b.ensures.0 c.in_ok-code.ensures c.in_ok-c.ensures,
+      c.well_formed.0.0,
+    )
 
-pub overflow_add-result-then-code-a-2 : goal.overflow_add-result-then-code-a-2
-overflow_add-result-then-code-a-2 c =
-    let p = parts c.args.s.now c.take-word.result.now c.index_of.result c.code_of-code.result c.read_number-a.result c.read_number-b.result c.read_number-c.result
-    c.index_of.ensures c.take-word.ensures.0 c.code_of-code.ensures c.drop-behind_word.ensures.0 c.read_number-a.ensures c.drop-behind_a.ensures.0
-    c.read_number-b.ensures c.drop-behind_b.ensures.0 c.read_number-c.ensures in
-    omega (arith, inside p c.if-code-a.true, c.well_formed.0.0)
+pub overflow_add-result-3 : goal.overflow_add-result-3
+overflow_add-result-3 c =
+    omega (
+      arith,
+      inside c.args.s.now c.index_of.ensures c.take-word.ensures.0 c.drop-behind_word.ensures.0 c.in_ok-a.ensures c.drop-behind_a.ensures.0 c.in_ok-b.ensures
+          c.drop-behind_b.ensures.0 c.in_ok-code.ensures c.in_ok-c.ensures,
+      c.well_formed.0.0,
+    )
 
-pub returns-then-code-a : goal.returns-then-code-a
-returns-then-code-a c =
-    let p = parts c.args.s.now c.take-word.result.now c.index_of.result c.code_of-code.result c.read_number-a.result c.read_number-b.result c.read_number-c.result
-    c.index_of.ensures c.take-word.ensures.0 c.code_of-code.ensures c.drop-behind_word.ensures.0 c.read_number-a.ensures c.drop-behind_a.ensures.0
-    c.read_number-b.ensures c.drop-behind_b.ensures.0 c.read_number-c.ensures in
-    found p c.if-code-a.true
-
-pub returns-else-code-a : goal.returns-else-code-a
-returns-else-code-a c =
-    let p = parts c.args.s.now c.take-word.result.now c.index_of.result c.code_of-code.result c.read_number-a.result c.read_number-b.result c.read_number-c.result
-    c.index_of.ensures c.take-word.ensures.0 c.code_of-code.ensures c.drop-behind_word.ensures.0 c.read_number-a.ensures c.drop-behind_a.ensures.0
-    c.read_number-b.ensures c.drop-behind_b.ensures.0 c.read_number-c.ensures in
-    none p c.if-code-a.false
+pub returns : goal.returns
+returns c =
+    line_found c.args.s.now c.index_of.ensures c.take-word.ensures.0 c.drop-behind_word.ensures.0 c.in_ok-a.ensures c.drop-behind_a.ensures.0 c.in_ok-b.ensures
+    c.drop-behind_b.ensures.0 c.in_ok-code.ensures c.in_ok-c.ensures
