@@ -1,8 +1,8 @@
 -- Laws of the writer: the number and the bytes of lines by what is kept of them, and what that makes of the text.
 use Prim.Native.Nat.{ℕ, ◌+◌, ◌*◌, ◌<◌, ◌≤◌}
-use mathlib.Core.Path.{◌≡◌, refl, sym, ap, ap₂, ◌∙◌}
+use mathlib.Core.Path.{◌≡◌, refl, sym, ap, ◌∙◌}
 use mathlib.Core.Bool.{Bool, true, ◌&&◌}
-use mathlib.Core.List.{List, [], ◌∷◌, ◌++◌, append-nil}
+use mathlib.Core.List.{List, [], append-nil}
 use native.Mathlib.Omega.{arith}
 use borrow.Author.Tests.{leb-true}
 use lib.Dec.{leb}
@@ -28,7 +28,7 @@ use Rattle.std.proofs.lemmas.Result.{err_from_is_err_and}
 use mathlib.Core.Logic.{◌≢◌}
 use Rattle.monitor.proofs.Calls.{busy_0, call_refused}
 use Rattle.listing.specs.Listing.{Line, line, Spells, is_bytes, is_admitted, lines_number, line_bytes, program_bytes, assemble_call, no_list_call, AssemblePromise, line_of, lines_of}
-use Rattle.listing.specs.Inner.{kept_byte, kept_bytes, Kept, kept_number}
+use Rattle.listing.specs.Inner.{Kept, kept_number}
 use Rattle.listing.proofs.Texts.{lines_unique, reading, spelled, other}
 use Rattle.listing.proofs.Program.{no_line, line_item}
 
@@ -69,22 +69,6 @@ module _ (ls : List Line) where
       (λ e. each_intro (count q) (λ i. is_legal (instruction_at q i)) (λ i h. let l : i < length ls = omega (arith, program_count) in
       legal_item i l ∙ all_at (legal_in (length ls)) no_line ls e i l))
 
--- ---- lines whose numbers are bytes are kept as they are
-
-byte_kept : (x : ℕ) → leb x 255 ≡ true → kept_byte x ≡ x
-byte_kept x e = omega (arith, leb-true x 255 e)
-
-line_kept : (l : Line) → is_bytes l ≡ true → kept_bytes l ≡ line_bytes l
-line_kept l e =
-    let abc = and_both (leb l.a 255 && leb l.b 255) (leb l.c 255) e in
-    let ab = and_both (leb l.a 255) (leb l.b 255) abc.0 in
-    rw (byte_kept l.a ab.0, byte_kept l.b ab.1, byte_kept l.c abc.1) refl
-
-lines_kept : (ls : List Line) → all is_bytes ls ≡ true → encode_items kept_bytes ls ≡ program_bytes ls
-unfolding all program_bytes encode_items
-lines_kept [] e = refl
-lines_kept (l ∷ ls) e = let b = and_both (is_bytes l) (all is_bytes ls) e in ap₂ (λ (v w : List ℕ). v ++ w) (line_kept l b.0) (lines_kept ls b.1)
-
 -- ---- the number of lines, by what is kept of them
 
 module _ {text program : List ℕ} {lines : ℕ} {bytes : Bool} (k : Kept text program lines bytes) (room : length program ≡ 1024) where
@@ -96,7 +80,7 @@ module _ {text program : List ℕ} {lines : ℕ} {bytes : Bool} (k : Kept text p
   few e = omega (arith, k.counted, leb-true n 256 (and_both (leb 1 n) (leb n 256) e).1)
 
   front : lines ≤ 256 → all is_bytes k.list ≡ true → take (4 * lines) program ≡ program_bytes k.list
-  front h e = k.front (omega arith) ∙ lines_kept k.list e
+  front h e = k.front (k.all_bytes ∙ e) (omega arith)
 
   operands : lines ≤ 256
       → (unless (all is_bytes k.list) 6 then instructions_number (count (take (4 * lines) program)) (take (4 * lines) program))

@@ -1,48 +1,25 @@
 -- Laws of the lines that are kept: one more behind the others, and the number and the bytes of them all.
-use Prim.Native.Nat.{ℕ, ◌+◌, ◌*◌, ◌-◌, ◌/◌, ◌%◌, ◌<◌, ◌≤◌, min}
+use Prim.Native.Nat.{ℕ, ◌+◌, ◌*◌, ◌/◌, ◌<◌, ◌≤◌, min}
 use mathlib.Core.Logic.{dite}
 use mathlib.Core.Path.{◌≡◌, refl, sym, ap, ◌∙◌}
-use mathlib.Core.Bool.{Bool, true, false, ◌&&◌, and-true}
+use mathlib.Core.Bool.{Bool, true, false, ◌&&◌, and-true, and-false}
 use mathlib.Core.List.{List, [], ◌∷◌, ◌++◌, append-nil, append_assoc}
 use Rattle.std.specs.Prelude.{Some, None}
 use native.Mathlib.Decide.{dec_lt}
 use native.Mathlib.Omega.{arith}
-use borrow.Author.Tests.{lt-ltb, le-ltb, le-leb, lt-leb}
-use borrow.Rule.Slice.PartMut.{put_mid}
+use borrow.Author.Tests.{leb-true, lt-ltb, le-ltb, le-leb, lt-leb}
 use lib.Dec.{leb, ltb}
-use lib.ListN.{length, take, drop, length-append, length-drop, take-append-drop}
+use lib.ListN.{length, take, drop, length-append, length-drop}
 use lib.Seq.{length-take-le, take_at}
 use Rattle.wire.specs.Lists.{Every, all}
 use Rattle.wire.specs.Items.{encode_items}
-use Rattle.wire.specs.Output.{overwrite}
-use Rattle.wire.specs.Inner.{written}
-use Rattle.wire.proofs.Lists.{every_append, all_append, length_nil}
+use Rattle.wire.proofs.Lists.{split, and_both, every_append, all_append, length_nil}
 use Rattle.wire.proofs.Items.{items_append}
-use Rattle.wire.proofs.Output.{lent_fits}
 use Rattle.listing.specs.declared.ReadLine.{ReadLine}
-use Rattle.listing.specs.Listing.{Line, line_text, listing_text, Spells, is_bytes}
-use Rattle.listing.specs.Inner.{line_at, line_length, told_line, read_line, kept_bytes, kept, Kept}
+use Rattle.listing.specs.Listing.{Line, line_text, listing_text, Spells, is_bytes, line_bytes, program_bytes}
+use Rattle.listing.specs.Inner.{line_at, line_length, told_line, read_line, told_bytes, kept, Kept}
 use Rattle.listing.proofs.Lines.{Found, line_stands, has_some, line_told, none_told}
 use Rattle.listing.proofs.Texts.{Known, no_list}
-
--- ---- one line more
-
-abbrev kept_line : ReadLine → List ℕ
-kept_line l = l.code ∷ l.a % 256 ∷ l.b % 256 ∷ l.c % 256 ∷ []
-
-module _ (program : List ℕ) (lines : ℕ) (l : ReadLine) where
-  pub kept_room : {ys : List ℕ} → lines < length program / 4 → ys ≡ written (kept_line l) (take (length program - 4 * lines) (drop (4 * lines) program))
-      → put_mid (4 * lines) (length program - 4 * lines) program ys ≡ kept lines l program
-  kept_room {ys} h wrote =
-      let front = take (4 * lines) program in
-      let long : length front ≡ 4 * lines = length-take-le (4 * lines) program (omega arith) in
-      let whole : program ≡ overwrite front program = rw long (sym (take-append-drop (4 * lines) program)) in
-      let both : length (front ++ kept_line l) ≡ 4 * lines + 4 = length-append front (kept_line l) ∙ ap (λ (n : ℕ). n + 4) long in
-      lent_fits front (kept_line l) program (4 * lines) long (omega (arith, long)) whole wrote
-      ∙ rw (both, lt-ltb lines (length program / 4) h) (append_assoc front (kept_line l) (drop (4 * lines + 4) program))
-
-  pub kept_none : length program / 4 ≤ lines → program ≡ kept lines l program
-  kept_none h = rw (le-ltb lines (length program / 4) h)
 
 -- ---- what is kept of the lines that were read so far, ahead of the rest of the text
 
@@ -53,11 +30,11 @@ pub record SoFar (text program₀ program rest : List ℕ) (lines : ℕ) (bytes 
   pub counted : lines ≡ length list
   pub few : lines + length rest ≤ length text
   pub all_bytes : bytes ≡ all is_bytes list
-  pub front : lines ≤ length program / 4 → take (4 * lines) program ≡ encode_items kept_bytes list
+  pub front : bytes ≡ true → lines ≤ length program / 4 → take (4 * lines) program ≡ program_bytes list
   pub same : length program ≡ length program₀
 
 pub so_far_none : (text program : List ℕ) → SoFar text program program text 0 true
-unfolding listing_text encode_items all
+unfolding listing_text program_bytes encode_items all
 so_far_none text program = record {
   list = [];
   known = tt;
@@ -65,7 +42,7 @@ so_far_none text program = record {
   counted = refl;
   few = omega arith;
   all_bytes = refl;
-  front = λ h. refl;
+  front = λ e h. refl;
   same = refl;
 }
 
@@ -76,17 +53,23 @@ below x =
     (λ h. let same : min x 256 ≡ x = omega arith in rw (same, lt-ltb x 256 h, le-leb x 255 (omega arith)) refl)
     (λ h. let most : min x 256 ≡ 256 = omega arith in rw (most, lt-leb x 255 (omega arith)) refl)
 
-regroup : (p x y z : Bool) → (p && x && y && z) ≡ (p && ((x && y && z) && true))
-regroup true x y z = sym (and-true (x && y && z))
-regroup false x y z = refl
+byte_told : (x : ℕ) → leb x 255 ≡ true → min x 256 ≡ x
+byte_told x e = omega (arith, leb-true x 255 e)
 
-length_kept : (program : List ℕ) (lines : ℕ) (l : ReadLine) → length (kept lines l program) ≡ length program
-length_kept program lines l =
+length_kept : (program line : List ℕ) (lines : ℕ) → length line ≡ 4 → length (kept lines line program) ≡ length program
+length_kept program line lines four =
     dite (dec_lt lines (length program / 4))
     (λ h.
     let long : length (take (4 * lines) program) ≡ 4 * lines = length-take-le (4 * lines) program (omega arith) in
     rw (lt-ltb lines (length program / 4) h)
-    (omega (arith, length-append (take (4 * lines) program) (kept_line l ++ drop (4 * lines + 4) program), long, length-drop (4 * lines + 4) program)))
+    (omega (
+      arith,
+      four,
+      length-append (take (4 * lines) program) (line ++ drop (4 * lines + 4) program),
+      length-append line (drop (4 * lines + 4) program),
+      long,
+      length-drop (4 * lines + 4) program,
+    )))
     (λ h. rw (le-ltb lines (length program / 4) (omega arith)))
 
 -- one line more
@@ -123,38 +106,62 @@ module _ {text program₀ program rest : List ℕ} {lines : ℕ} {bytes : Bool} 
     omega (arith, size, stands.size, ap length stands.stands, length-append (line_text l) (drop (line_length rest) rest)),
   )
 
-  more_bytes : (bytes && ltb r.a 256 && ltb r.b 256 && ltb r.c 256) ≡ all is_bytes (h.list ++ (l ∷ []))
+  all_more : all is_bytes (h.list ++ (l ∷ [])) ≡ (bytes && is_bytes l)
   unfolding all
-  more_bytes =
-      rw (told, below, below, below, all_append is_bytes h.list (l ∷ []), ← h.all_bytes)
-      (regroup bytes (leb l.a 255) (leb l.b 255) (leb l.c 255))
+  all_more = rw (all_append is_bytes h.list (l ∷ []), ← h.all_bytes, and-true) refl
 
-  same_kept : kept_line r ≡ kept_bytes l
-  same_kept = rw told refl
-
-  more_front : lines + 1 ≤ length (kept lines r program) / 4 → take (4 * (lines + 1)) (kept lines r program) ≡ encode_items kept_bytes (h.list ++ (l ∷ []))
-  unfolding encode_items
-  more_front room =
-      let fits : lines < length program / 4 = omega (arith, length_kept program lines r) in
-      let long : length (take (4 * lines) program) ≡ 4 * lines = length-take-le (4 * lines) program (omega arith) in
-      let both : length (take (4 * lines) program ++ kept_line r) ≡ 4 * (lines + 1) = omega (arith, length-append (take (4 * lines) program) (kept_line r), long) in
-      let front : take (4 * (lines + 1)) (kept lines r program) ≡ take (4 * lines) program ++ kept_line r
-      = rw (lt-ltb lines (length program / 4) fits, ← append_assoc (take (4 * lines) program) (kept_line r) (drop (4 * lines + 4) program))
-      (take_at (take (4 * lines) program ++ kept_line r) (drop (4 * lines + 4) program) (4 * (lines + 1)) both) in
-      let parts : take (4 * lines) program ++ kept_line r ≡ encode_items kept_bytes h.list ++ kept_bytes l = rw (h.front (omega arith), same_kept) refl in
-      front ∙ parts ∙ sym (items_append kept_bytes h.list (l ∷ []))
-
-  pub so_far_more : SoFar text program₀ (kept lines r program) (drop r.length rest) (lines + 1) (bytes && ltb r.a 256 && ltb r.b 256 && ltb r.c 256)
-  so_far_more = record {
+  -- what is read on, with what is kept of the line and whether all are bytes with it
+  more : (program' : List ℕ) (bytes' : Bool) → length program' ≡ length program → bytes' ≡ (bytes && is_bytes l)
+      → (bytes' ≡ true → lines + 1 ≤ length program' / 4 → take (4 * (lines + 1)) program' ≡ program_bytes (h.list ++ (l ∷ [])))
+      → SoFar text program₀ program' (drop r.length rest) (lines + 1) bytes'
+  more program' bytes' same told front = record {
     list = h.list ++ (l ∷ []);
     known = every_append Known h.list (l ∷ []) h.known (stands.known, tt);
     spelled = more_spelled;
     counted = omega (arith, h.counted, length-append h.list (l ∷ []));
     few = omega (arith, h.few, length-drop r.length rest, line_within);
-    all_bytes = more_bytes;
-    front = more_front;
-    same = length_kept program lines r ∙ h.same;
+    all_bytes = rw all_more told;
+    front = front;
+    same = same ∙ h.same;
   }
+
+  -- the tests of the code are those of the line
+  tests : (ltb r.a 256 && ltb r.b 256 && ltb r.c 256) ≡ is_bytes l
+  tests = rw (told, below, below, below) refl
+
+  -- a number of the line is above 255
+  pub so_far_above : told_bytes r ≡ None → SoFar text program₀ program (drop r.length rest) (lines + 1) false
+  so_far_above none =
+      let above : is_bytes l ≡ false = split (is_bytes l) (λ t. let some = rw (tests, t) at none in cc) (λ t. t) in
+      more program false refl (rw (above, and-false) refl) (λ z. cc)
+
+  -- its four bytes are kept
+  module _ {line : List ℕ} (some : told_bytes r ≡ Some line) where
+    passed : (is_bytes l ≡ true) × (line ≡ line_bytes l)
+    passed =
+        split (is_bytes l)
+        (λ t.
+        let first : Some (r.code ∷ r.a ∷ r.b ∷ r.c ∷ []) ≡ Some line = rw (tests, t) at some in
+        let same : line ≡ r.code ∷ r.a ∷ r.b ∷ r.c ∷ [] = cc in
+        let abc = and_both (leb l.a 255 && leb l.b 255) (leb l.c 255) t in
+        let ab = and_both (leb l.a 255) (leb l.b 255) abc.0 in
+        (t, same ∙ rw (told, byte_told l.a ab.0, byte_told l.b ab.1, byte_told l.c abc.1) refl))
+        (λ t. let none : None ≡ Some line = rw (tests, t) at some in cc)
+
+    more_front : bytes ≡ true → lines + 1 ≤ length (kept lines line program) / 4 → take (4 * (lines + 1)) (kept lines line program) ≡ program_bytes (h.list ++ (l ∷ []))
+    unfolding program_bytes encode_items
+    more_front e room =
+        let four : length line ≡ 4 = ap length passed.1 in
+        let fits : lines < length program / 4 = omega (arith, length_kept program line lines four) in
+        let long : length (take (4 * lines) program) ≡ 4 * lines = length-take-le (4 * lines) program (omega arith) in
+        let both : length (take (4 * lines) program ++ line) ≡ 4 * (lines + 1) = omega (arith, length-append (take (4 * lines) program) line, long, four) in
+        let front : take (4 * (lines + 1)) (kept lines line program) ≡ take (4 * lines) program ++ line
+        = rw (lt-ltb lines (length program / 4) fits, ← append_assoc (take (4 * lines) program) line (drop (4 * lines + 4) program))
+        (take_at (take (4 * lines) program ++ line) (drop (4 * lines + 4) program) (4 * (lines + 1)) both) in
+        front ∙ rw (h.front e (omega arith), passed.1) (sym (items_append line_bytes h.list (l ∷ [])))
+
+    pub so_far_more : SoFar text program₀ (kept lines line program) (drop r.length rest) (lines + 1) bytes
+    so_far_more = more _ bytes (length_kept program line lines (ap length passed.1)) (rw (passed.0, and-true) refl) more_front
 
 -- ---- the end of the text, or what is no line
 

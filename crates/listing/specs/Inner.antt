@@ -1,10 +1,9 @@
 -- Definitions for contracts of functions that are no calls, which no claim and no call's promise reaches: what is read at the front of
 -- a text, and what is kept of a text that was read.
-use Rattle.std.specs.Prelude.{ℕ, ◌+◌, ◌*◌, ◌/◌, ◌%◌, ◌≤◌, min, ◌≡◌, Bool, Option, Some, None, Result, Ok, Err, cond, ◌&&◌, List, [], ◌∷◌, ◌++◌, leb, ltb, length, take, drop}
+use Rattle.std.specs.Prelude.{ℕ, ◌+◌, ◌*◌, ◌/◌, ◌≤◌, min, ◌≡◌, Bool, true, Option, Some, None, Result, Ok, Err, cond, ◌&&◌, List, [], ◌∷◌, ◌++◌, leb, ltb, length, take, drop}
 use Rattle.refusal.specs.declared.Refusal.{Refusal}
 use Rattle.refusal.specs.declared.Refusal.TheVariants.{Text}
 use Rattle.wire.specs.Lists.{all}
-use Rattle.wire.specs.Items.{encode_items}
 use Rattle.text.specs.Inner.{ahead, number_length, number_value}
 use Rattle.instruction.specs.Table.{table}
 use Rattle.instruction.specs.Program.{count}
@@ -12,7 +11,8 @@ use Rattle.word.specs.Inner.{code_of}
 use Rattle.image.specs.Refusal.{◌then◌, unless, instructions_number}
 use Rattle.listing.specs.declared.ReadLine.{ReadLine}
 use Rattle.listing.specs.declared.ReadText.{ReadText}
-use Rattle.listing.specs.Listing.{Line, line, Spells, is_bytes}
+use Rattle.std.specs.Bool.{then_some}
+use Rattle.listing.specs.Listing.{Line, line, Spells, is_bytes, program_bytes}
 
 -- ---- a line
 
@@ -56,28 +56,25 @@ told_line b =
 unfoldable pub read_line : List ℕ → Option ReadLine
 read_line b = cond (has_line b) (Some (told_line b)) None
 
--- ---- what is kept of lines: four bytes each, and whether all their numbers are bytes
+-- ---- what is kept of lines: four bytes each, where all their numbers are bytes
 
-abbrev pub kept_byte : ℕ → ℕ
-kept_byte x = min x 256 % 256
+-- the bytes of a line that was read
+abbrev pub told_bytes : ReadLine → Option (List ℕ)
+told_bytes l = then_some (ltb l.a 256 && ltb l.b 256 && ltb l.c 256) (l.code ∷ l.a ∷ l.b ∷ l.c ∷ [])
 
-abbrev pub kept_bytes : Line → List ℕ
-kept_bytes l = l.code ∷ kept_byte l.a ∷ kept_byte l.b ∷ kept_byte l.c ∷ []
+-- a program once the bytes of a line are kept behind `lines` others, where there is room for them
+abbrev pub kept : ℕ → List ℕ → List ℕ → List ℕ
+kept lines line program =
+    cond (ltb lines (length program / 4)) (take (4 * lines) program ++ (line ++ drop (4 * lines + 4) program)) program
 
--- a program once a line that was read is kept behind `lines` others, where there is room for it
-abbrev pub kept : ℕ → ReadLine → List ℕ → List ℕ
-kept lines l program =
-    cond (ltb lines (length program / 4))
-    (take (4 * lines) program ++ (l.code ∷ l.a % 256 ∷ l.b % 256 ∷ l.c % 256 ∷ drop (4 * lines + 4) program))
-    program
-
--- the lines of a whole text, and what is kept of them in the first bytes of a program that has room for them
+-- the lines of a whole text, and, where all their numbers are bytes, what is kept of them in the first bytes of a program that has room
+-- for them
 pub record Kept (text program : List ℕ) (lines : ℕ) (bytes : Bool) : Type 0 where
   pub list : List Line
   pub spells : Spells list text
   pub counted : lines ≡ length list
   pub all_bytes : bytes ≡ all is_bytes list
-  pub front : lines ≤ length program / 4 → take (4 * lines) program ≡ encode_items kept_bytes list
+  pub front : bytes ≡ true → lines ≤ length program / 4 → take (4 * lines) program ≡ program_bytes list
 
 -- a text that was read to its end, or to where no line stands
 abbrev pub IsRead : List ℕ → List ℕ → Result ReadText Refusal → Type 0

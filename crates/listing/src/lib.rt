@@ -8,7 +8,7 @@ ghost use Rattle.wire.specs.Inner.{written};
 ghost use Rattle.refusal.specs.Refusal.{number};
 ghost use Rattle.monitor.specs.Calls.{output_answer, told, CallPromise};
 ghost use Rattle.listing.specs.Listing.{line_text, listing_text, line_of, AssemblePromise, part_number, lines_of, disassemble_call};
-ghost use Rattle.listing.specs.Inner.{read_line, kept, IsRead, kept_number};
+ghost use Rattle.listing.specs.Inner.{read_line, told_bytes, kept, IsRead, kept_number};
 
 use monitor::Written;
 use refusal::Refusal;
@@ -53,28 +53,31 @@ fn read_line(s: &[u8]) -> Option<ReadLine>
     })
 }
 
-// What was read of a list of lines: how many they are, and whether all their numbers are bytes.
+// The four bytes of a line, none where a number is above 255.
+fn line_bytes(line: ReadLine) -> Option<[u8; 4]>
+    ensures { result ≡ told_bytes line }
+{
+    let a = u8::try_from(line.a).ok()?;
+    let b = u8::try_from(line.b).ok()?;
+    let c = u8::try_from(line.c).ok()?;
+    Some([line.code, a, b, c])
+}
+
+// Keeps the four bytes of a line behind those of `lines` others, where the program has room for them.
+fn keep_line(program: &mut [u8], lines: usize, line: &[u8; 4])
+    ensures { program.new ≡ kept lines line.now program.old }
+{
+    if lines < program.len() / 4 {
+        wire::copy(&mut program[4 * lines..], line);
+    }
+}
+
+// What was read of a list of lines: how many they are, and whether all their numbers are bytes. That one is not is told only behind the
+// last line, since what is no list and the number of lines are refused ahead of it.
 #[derive(Clone, Copy)]
 struct ReadText {
     lines: usize,
     bytes: bool,
-}
-
-// Keeps the four bytes of a line behind those of `lines` others, where the program has room for them. A number above 255 is kept as 0:
-// that there was one is told beside the bytes.
-fn keep_line(program: &mut [u8], lines: usize, line: ReadLine)
-    ensures { program.new ≡ kept lines line program.old }
-{
-    if lines < program.len() / 4 {
-        let at = 4 * lines;
-        let bytes: [u8; 4] = [
-            line.code,
-            (line.a % 256) as u8,
-            (line.b % 256) as u8,
-            (line.c % 256) as u8,
-        ];
-        wire::copy(&mut program[at..], &bytes);
-    }
 }
 
 // Reads a whole text, where it is a list of lines, and keeps them where the program has room for them.
@@ -86,9 +89,11 @@ fn read_text(program: &mut [u8], text: &[u8]) -> Result<ReadText, Refusal>
     let mut bytes = true;
     while !rest.is_empty() {
         let line = read_line(rest).ok_or(Refusal::Text)?;
-        keep_line(program, lines, line);
+        match line_bytes(line) {
+            Some(kept) => keep_line(program, lines, &kept),
+            None => bytes = false,
+        }
         lines += 1;
-        bytes = bytes & (line.a < 256) & (line.b < 256) & (line.c < 256);
         rest = &rest[line.length..];
     }
     Ok(ReadText { lines, bytes })

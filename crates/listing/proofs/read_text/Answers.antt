@@ -8,8 +8,9 @@ use Rattle.std.proofs.lemmas.Result.{err_from_is_err_and}
 use borrow.Author.Tests.{eqb-true, eqb-false}
 use lib.ListN.{length, length-drop}
 use Rattle.wire.proofs.Output.{rest}
-use Rattle.listing.proofs.Keeping.{so_far_none, so_far_more, line_within, so_far_all, so_far_stops}
+use Rattle.listing.proofs.Keeping.{so_far_none, so_far_more, so_far_above, line_within, so_far_all, so_far_stops}
 use Rattle.listing.proofs.read_text.Goals as goal
+use Rattle.listing.proofs.read_text.Goals.{in-Some, in-None}
 
 pub loop-rest-init : goal.loop-rest-init
 loop-rest-init c = so_far_none _ _
@@ -40,7 +41,13 @@ loop-rest-smaller c =
     rw rest (omega (arith, within, length-drop c.in_ok-line.line.length c.loop-rest.rest.now))
 
 pub loop-rest-preserved : goal.loop-rest-preserved
-loop-rest-preserved c = rw (rest, c.keep_line.ensures) (so_far_more c.loop-rest.invariant (sym c.read_line.ensures ∙ c.in_ok-line.ensures.ok_part))
+loop-rest-preserved c =
+    let h = c.loop-rest.invariant in
+    let read = sym c.read_line.ensures ∙ c.in_ok-line.ensures.ok_part in
+    elim c.match-line_bytes.branch [
+      | in-Some w ↦ rw (rest, w.program-is, w.bytes-is, w.keep_line.ensures) (so_far_more h read (sym w.in-Some.ensures))
+      | in-None w ↦ rw (rest, w.program-is, w.bytes-is) (so_far_above h read (sym w.in-None.ensures))
+    ]
 
 pub returns : goal.returns
 returns c = so_far_all c.loop-rest.invariant (eqb-true _ 0 (sym c.loop-rest-test.ensures))
