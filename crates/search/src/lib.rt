@@ -1,14 +1,16 @@
 // What is looked for in a mailbox: the messages of a label or those that flow to one, as a set, and what the set tells.
 #![tactic(auto)]
 
-ghost use Rattle.std.specs.Prelude.{◌<◌, ◌≤◌, ◌≡◌, cond, eqb};
-ghost use Rattle.label.specs.Label.{flows};
+ghost use Rattle.std.specs.Prelude.{ℕ, Bool, ◌<◌, ◌≤◌, ◌≡◌, cond, eqb};
+ghost use Rattle.wire.specs.Lists.{each};
+ghost use Rattle.label.specs.Label.{bit, flows};
 ghost use Rattle.planes.specs.Planes.{Bits, set_of, label_from};
 ghost use Rattle.machine.specs.Limits.{highest_label};
 ghost use Rattle.machine.specs.Effect.{find};
 ghost use Rattle.table.specs.Table.{window, plane_in, slots_in};
 ghost use Rattle.table.specs.Change.{Used, task_at};
 ghost use Rattle.search.specs.Look.{look};
+ghost use Rattle.search.specs.Planewise.{Tells};
 
 use machine::Found;
 
@@ -17,33 +19,35 @@ const LIMIT_PER_LABEL: usize = 4;
 
 // ---- sets of messages
 
-// Bit i: whether the label of message i in slot s is this one, for each of 64, there or not. Plane by plane those go that differ.
+// Bit i: whether the label of message i in slot s passes a test, for each of 64, there or not. Plane by plane those go that fail it;
+// `failing` tells them of a plane and its number.
+fn passing<F: Fn(u64, usize) -> u64>(t: &table::Table, s: usize, failing: F) -> u64
+    requires slot { s < 16 }
+    requires callable { (plane b : ℕ) → b < 4 → F.pre failing plane b }
+    ensures { (test : ℕ → ℕ → Bool) → Tells test (F.post failing)
+        → Bits (λ i. cond (each 4 (λ b. test (bit i (plane_in (window t.now s) b)) b)) 1 0) result }
+{
+    let mut failed: u64 = 0;
+    for b in 0..4 {
+        failed |= failing(table::plane(t, s, b), b);
+    }
+    !failed
+}
+
+// Bit i: whether the label of message i in slot s is this one.
 fn labelled(t: &table::Table, s: usize, label: u8) -> u64
     requires { (s < 16) × (label ≤ highest_label) }
     ensures { Bits (λ i. cond (eqb (label_from 4 (plane_in (window t.now s)) i) label) 1 0) result }
 {
-    let mut apart: u64 = 0;
-    let mut b: usize = 0;
-    while b < 4 {
-        apart = apart | planes::unlike(table::plane(t, s, b), label, b);
-        b += 1;
-    }
-    !apart
+    passing(t, s, |plane, b| planes::unlike(plane, label, b))
 }
 
-// Bit i: whether the label of message i in slot s flows to `label`, for each of 64, there or not. Plane by plane those go that have a
-// bit that it has not.
+// Bit i: whether the label of message i in slot s flows to `label`.
 fn flowing(t: &table::Table, s: usize, label: u8) -> u64
     requires { s < 16 }
     ensures { Bits (λ i. cond (flows (label_from 4 (plane_in (window t.now s)) i) label) 1 0) result }
 {
-    let mut hidden: u64 = 0;
-    let mut b: usize = 0;
-    while b < 4 {
-        hidden = hidden | planes::above(table::plane(t, s, b), label, b);
-        b += 1;
-    }
-    !hidden
+    passing(t, s, |plane, b| planes::above(plane, label, b))
 }
 
 // The messages of a label in slot s.
@@ -78,7 +82,7 @@ pub fn find(t: &table::Table, s: usize, label: u8) -> Found
 }
 
 // What the count of a label's messages tells: whether there is room for one more, and how many messages were looked at.
-#[derive(Drop)]
+#[derive(Clone, Copy)]
 pub struct Looked {
     pub room: bool,
     pub looked: usize,
@@ -98,10 +102,8 @@ pub fn look(t: &table::Table, s: usize, label: u8) -> Looked
         };
     }
     let mut left = of_label(t, s, label);
-    let mut nth: usize = 1;
-    while nth < LIMIT_PER_LABEL {
+    for _nth in 1..LIMIT_PER_LABEL {
         left = planes::rest(left);
-        nth += 1;
     }
     if left == 0 {
         Looked {

@@ -35,14 +35,12 @@ fn act(table: &mut table::Table, program: &[u8], slot: u8)
 fn bottom(table: &table::Table) -> u8
     ensures { result ≡ bottom_of (slots_in table.now) }
 {
-    let mut slot: u8 = 0;
-    while slot < 16 {
+    for slot in 0..16 {
         if table::kind(table, slot as usize) > 0 {
             return slot;
         }
-        slot += 1;
     }
-    slot
+    16
 }
 
 // The slot behind slot `slot` and its spare where it is used, else `before`.
@@ -62,27 +60,11 @@ fn top(table: &table::Table) -> u8
     requires { Within 0 16 (slots_in table.now) }
     ensures { result ≡ top_of 16 (slots_in table.now) }
 {
-    let mut top: u8 = 0;
-    let mut slot: u8 = 0;
-    while slot < 16 {
+    let mut top = 0;
+    for slot in 0..16 {
         top = top_behind(table, slot, top);
-        slot += 1;
     }
     top
-}
-
-// The higher of two.
-fn max(a: u8, b: u8) -> u8
-    ensures { result ≡ max a b }
-{
-    if a < b { b } else { a }
-}
-
-// The lower of two.
-fn min(a: u8, b: u8) -> u8
-    ensures { result ≡ min a b }
-{
-    if a < b { a } else { b }
 }
 
 // ---- rounds
@@ -107,20 +89,17 @@ fn round(table: &mut table::Table, program: &[u8], first: u8, end: u8, bottom: u
         × (running program.now (end % 16) table.new
         ≡ turns (end - first) (running program.now first table.old)) }
 {
-    let stop = min(end, top) as usize;
-    let from = max(first, bottom) as usize;
+    let from = first.max(bottom) as usize;
+    let stop = from.max(end.min(top) as usize);
     let mut idle: usize = 0;
-    let mut slot = from;
-    while slot < stop {
+    for slot in from..stop {
         if table::kind(table, slot) == 1 {
             act(table, program, slot as u8);
-            slot += 1;
         } else {
             idle += 1;
-            slot += 1;
         }
     }
-    (slot - from - idle) as u64
+    (stop - from - idle) as u64
 }
 
 // The slot behind a round: slot 15 is followed by slot 0.
@@ -132,7 +111,7 @@ fn next_slot(end: u8) -> u8
 }
 
 // What a run of turns tells: the slot whose turn is next, and how many of the turns met a live task.
-#[derive(Drop)]
+#[derive(Clone, Copy)]
 pub struct RunAnswer {
     pub turn: u8,
     pub busy: u64,
@@ -155,8 +134,5 @@ pub fn turns(table: &mut table::Table, program: &[u8], first: u8, n: u64) -> Run
         left -= (end - slot) as u64;
         slot = next_slot(end);
     }
-    RunAnswer {
-        turn: slot,
-        busy: busy,
-    }
+    RunAnswer { turn: slot, busy }
 }

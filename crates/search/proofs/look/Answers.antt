@@ -19,16 +19,16 @@ loop-nth-init c =
     going_first a.label (task_at (slots_in a.t.now) a.s).mailbox n.result c.of_label-left.result n.ensures.0 c.of_label-left.ensures
 
 pub loop-nth-preserved : goal.loop-nth-preserved
-loop-nth-preserved c = let h = c.loop-nth in rw c.rest-left.ensures (going_next _ _ _ h.left h.nth (omega arith) h.invariant)
+loop-nth-preserved c = let h = c.loop-nth in rw c.rest-left.ensures (going_next _ _ _ h.left h._nth (omega arith) h.invariant)
 
 pub returns-then-left-eq0 : goal.returns-then-left-eq0
-returns-then-left-eq0 c = let h = c.loop-nth in going_none _ _ _ h.left h.nth (omega arith) h.invariant c.if-left-eq0.true
+returns-then-left-eq0 c = let h = c.loop-nth in going_none _ _ _ h.left h._nth (omega arith) h.invariant c.if-left-eq0.true
 
 pub returns-else-left-eq0 : goal.returns-else-left-eq0
 returns-else-left-eq0 c =
     let h = c.loop-nth in
     let n = c.mailbox_length-n in
-    going_some _ _ _ h.left h.nth (omega arith) h.invariant n.ensures.1 c.if-left-eq0.false
+    going_some _ _ _ h.left h._nth (omega arith) h.invariant n.ensures.1 c.if-left-eq0.false
 
 pub mailbox_length-n-requires : goal.mailbox_length-n-requires
 mailbox_length-n-requires c = c.requires.0

@@ -1,3 +1,4 @@
+use mathlib.Core.Path.{◌≡◌}
 use mathlib.Core.Bool.{Bool, not}
 use native.Mathlib.Omega.{arith}
 use Rattle.wire.proofs.Lists.{first_here, first_next, first_past}
@@ -15,20 +16,21 @@ returns-then-kind-gt0 c =
     let h = c.loop-slot in
     let table = c.args.table.now in
     let here = kind_used (slots_in table) h.slot (omega (arith, c.kind.ensures, c.if-kind-gt0.true)) in
-    first_here in_use (slots_in table) h.slot unused (omega (arith, length_slots table)) (rw here) h.invariant.1
+    first_here in_use (slots_in table) h.slot unused (omega (arith, length_slots table)) (rw here) h.invariant
 
 pub loop-slot-preserved : goal.loop-slot-preserved
 loop-slot-preserved c =
     let h = c.loop-slot in
     let table = c.args.table.now in
     let none = kind_none table h.slot (omega (arith, c.kind.ensures, c.if-kind-gt0.false)) in
-    (omega arith, first_next in_use (slots_in table) h.slot unused (omega (arith, length_slots table)) (rw none) h.invariant.1)
+    first_next in_use (slots_in table) h.slot unused (omega (arith, length_slots table)) (rw none) h.invariant
 
 pub returns : goal.returns
 returns c =
     let h = c.loop-slot in
     let table = c.args.table.now in
-    first_past in_use (slots_in table) h.slot (omega (arith, length_slots table)) h.invariant.1
+    let all : h.slot ≡ 16 = omega arith in
+    rw all at (first_past in_use (slots_in table) h.slot (omega (arith, length_slots table)) h.invariant)
 
 pub loop-slot-init : goal.loop-slot-init
-loop-slot-init c = (omega arith, omega arith)
+loop-slot-init c = omega arith

@@ -8,8 +8,5 @@ use Rattle.turn.proofs.round.Given as goal
 -- no slot behind the last of the round has its turn
 abbrev pub invariant-loop-slot : goal.invariant-loop-slot
 invariant-loop-slot l =
-    (l.first ≤ l.slot) × (l.from ≤ l.slot) × (l.from + l.idle ≤ l.slot)
+    (l.first ≤ l.slot) × (l.from + l.idle ≤ l.slot)
     × Ran (running l.program l.first l.initial.table) l.program (min l.slot l.end - l.first) (min l.slot l.end % 16) (slots_in l.table) (l.slot - l.from - l.idle)
-
-abbrev pub decreases-loop-slot : goal.decreases-loop-slot
-decreases-loop-slot l = l.stop - l.slot
