@@ -25,10 +25,6 @@ use Rattle.table.specs.Change.{task_or, task_at, Used, message_at, change_slot, 
 use Rattle.table.proofs.Change.{change_same, change_none, change_set, change_at, change_here}
 use Rattle.effect.specs.Effects.{executed, accepts, RoomFor, GoesOn, Ready, WasDecoded}
 
--- what y is added to where the sum wraps to x
-subtracted : (z x y : ℕ) → z < 2 ^ 32 → y < 2 ^ 32 → (z + y) % 2 ^ 32 ≡ x → z ≡ (x + 2 ^ 32 - y) % 2 ^ 32
-subtracted z x y h g e = omega arith
-
 -- the place that was read, and 1 more
 pub place_up : (s : ℕ) (ss : List Slot) → change s (with_pc ((task_at ss s).pc + 1)) ss ≡ change s next ss
 place_up s ss = change_same ss s (with_pc ((task_at ss s).pc + 1)) next (λ t e. rw e)
@@ -82,11 +78,12 @@ module _ {s : ℕ} {ss : List Slot} (ready : Ready s ss) where
   unfolding execute
   add_done a b c {z = z} e f sum = alone (Add a b c) (λ t. next (with_register a z t)) (rw (sum, e, f))
 
-  pub subtract_done : (a b c : ℕ) {x y z : ℕ} → x ≡ register (task_at ss s) b → y ≡ register (task_at ss s) c
-      → z < 2 ^ 32 → y < 2 ^ 32 → (z + y) % 2 ^ 32 ≡ x → change s (λ t. next (with_register a z t)) ss ≡ executed (Subtract a b c) s ss
+  pub subtract_done : (a b c : ℕ) {x y : ℕ} → x ≡ register (task_at ss s) b → y ≡ register (task_at ss s) c → y < 2 ^ 32
+      → change s (λ t. next (with_register a ((x + (2 ^ 32 - y)) % 2 ^ 32) t)) ss ≡ executed (Subtract a b c) s ss
   unfolding execute
-  subtract_done a b c {x} {y} {z} e f h g back =
-      alone (Subtract a b c) (λ t. next (with_register a z t)) (rw (← e, ← f, subtracted z x y h g back))
+  subtract_done a b c {x} {y} e f h =
+      let same : x + (2 ^ 32 - y) ≡ x + 2 ^ 32 - y = omega arith in
+      alone (Subtract a b c) (λ t. next (with_register a ((x + (2 ^ 32 - y)) % 2 ^ 32) t)) (rw (← e, ← f, same))
 
   pub go_done : (after : List Slot) (a : ℕ) → after ≡ change s (with_pc a) ss → after ≡ executed (Go a) s ss
   unfolding execute

@@ -51,7 +51,7 @@ fn add(table: &mut table::Table, slot: u8, a: u8, b: u8, c: u8)
 {
     let x = table::register(table, slot as usize, b as usize);
     let y = table::register(table, slot as usize, c as usize);
-    gets(table, slot, a, std::num::wrapping_add_u32(x, y));
+    gets(table, slot, a, x.wrapping_add(y));
 }
 
 // Register a gets register b less register c, wrapped to 32 bits.
@@ -61,7 +61,7 @@ fn subtract(table: &mut table::Table, slot: u8, a: u8, b: u8, c: u8)
 {
     let x = table::register(table, slot as usize, b as usize);
     let y = table::register(table, slot as usize, c as usize);
-    gets(table, slot, a, std::num::wrapping_sub_u32(x, y));
+    gets(table, slot, a, x.wrapping_sub(y));
 }
 
 // The place becomes b if register a is 0.

@@ -61,7 +61,8 @@ fn of_label(t: &table::Table, s: usize, label: u8) -> u64
 // ---- what a set tells
 
 // The search of slot s at a label: which message that is receivable there is the oldest, and how many are. The oldest needs no mask: an
-// index behind the last message says that there is none. Who does not ask for the count does not pay for it: the compiler leaves it out.
+// index behind the last message says that there is none. It is no Option, since definition `find` (machine/specs/Effect.antt), on which the
+// theorems of turns rest, says an index. Who does not ask for the count does not pay for it: the compiler leaves it out.
 pub fn find(t: &table::Table, s: usize, label: u8) -> Found
     requires { Used s (slots_in t.now) }
     ensures { result ≡ find flows label (task_at (slots_in t.now) s).mailbox }
@@ -74,10 +75,10 @@ pub fn find(t: &table::Table, s: usize, label: u8) -> Found
         };
     }
     let passed = flowing(t, s, label);
-    let first = u64::trailing_zeros(passed) as usize;
+    let first = passed.trailing_zeros() as usize;
     Found {
-        oldest: if first < n { first } else { n },
-        receivable: u64::count_ones(passed & planes::below(n)) as usize,
+        oldest: first.min(n),
+        receivable: (passed & planes::below(n)).count_ones() as usize,
     }
 }
 
@@ -113,7 +114,7 @@ pub fn look(t: &table::Table, s: usize, label: u8) -> Looked
     } else {
         Looked {
             room: false,
-            looked: (u64::trailing_zeros(left) as usize) + 1,
+            looked: left.trailing_zeros() as usize + 1,
         }
     }
 }

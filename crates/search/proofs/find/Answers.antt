@@ -19,7 +19,6 @@ use Rattle.table.specs.Change.{task_at, Used}
 use Rattle.table.proofs.Slots.{used_slot}
 use Rattle.search.proofs.Read.{receivable_most, set_read, first_read}
 use Rattle.search.proofs.find.Goals as goal
-use Rattle.search.proofs.find.Goals.{then-first-n, else-first-n}
 
 -- those that are there, of the 64 that were looked at
 there : (t : List ℕ) (s label x n below : ℕ) → Used s (slots_in t) → Bits (λ i. cond (receivable flows label (message_in (window t s) i)) 1 0) x
@@ -67,9 +66,4 @@ returns c =
     let first : first_index p (task_at (slots_in a.t.now) a.s).mailbox ≡ min (count_trailing_zeros 64 c.flowing-passed.result) n.result
     = first_read a.t.now a.s c.requires p c.flowing-passed.result n.result c.flowing-passed.ensures n.ensures.0 n.ensures.1 c.flowing-passed.type_inv in
     let many = there a.t.now a.s a.label c.flowing-passed.result n.result c.below.result c.requires c.flowing-passed.ensures n.ensures.0 n.ensures.1 c.below.ensures in
-    let oldest : c.if-first-n.result ≡ first_index p (task_at (slots_in a.t.now) a.s).mailbox =
-    elim c.if-first-n.branch [
-      | then-first-n w ↦ omega (arith, first, w.if-first-n.true, w.result-is)
-      | else-first-n w ↦ omega (arith, first, w.if-first-n.false, w.result-is)
-    ] in
-    rw (oldest, many)
+    rw (c.min.ensures, first, many)
