@@ -198,21 +198,27 @@ accepts_room ss to l = there (slot_at ss to)
     there unused e room = let z : ◌≡◌ {A = ℕ} 0 1 = cc in absurd (omega arith)
     there (used t) e room = (refl, room.1 (and_both (is_live t) (has_room l t.mailbox) e).1)
 
--- k: the kind that was read
-module _ (ss : List Slot) (to l : ℕ) {k : ℕ} (kind : k ≡ (task_at ss to).kind) where
-  pub accepts_live : k ≡ 1 → has_room l (task_at ss to).mailbox ≡ accepts l (slot_at ss to)
-  accepts_live live = by_room (slot_at ss to) (sym kind ∙ live)
-    where
-      by_room : (x : Slot) → (task_or x).kind ≡ 1 → has_room l (task_or x).mailbox ≡ accepts l x
-      by_room unused e = absurd (omega arith)
-      by_room (used t) e = rw e
+-- a live task is there
+pub live_here : (ss : List Slot) (s : ℕ) → has_live_task (slot_at ss s) ≡ true → Used s ss
+live_here ss s = there (slot_at ss s)
+  where
+    there : (x : Slot) → has_live_task x ≡ true → x ≡ used (task_or x)
+    there unused e = cc
+    there (used t) e = refl
 
-  pub accepts_stopped : k ≢ 1 → false ≡ accepts l (slot_at ss to)
-  accepts_stopped stopped = not_live (slot_at ss to) (λ e. stopped (kind ∙ e))
+module _ (ss : List Slot) (to l : ℕ) where
+  accepts_both : accepts l (slot_at ss to) ≡ (has_live_task (slot_at ss to) && has_room l (task_at ss to).mailbox)
+  accepts_both = both (slot_at ss to)
     where
-      not_live : (x : Slot) → (task_or x).kind ≢ 1 → false ≡ accepts l x
-      not_live unused e = refl
-      not_live (used t) e = rw (ne_eqb t.kind 1 e)
+      both : (x : Slot) → accepts l x ≡ (has_live_task x && has_room l (task_or x).mailbox)
+      both unused = refl
+      both (used t) = refl
+
+  pub accepts_live : has_live_task (slot_at ss to) ≡ true → has_room l (task_at ss to).mailbox ≡ accepts l (slot_at ss to)
+  accepts_live live = rw (accepts_both, live)
+
+  pub accepts_stopped : has_live_task (slot_at ss to) ≡ false → false ≡ accepts l (slot_at ss to)
+  accepts_stopped stopped = rw (accepts_both, stopped)
 
 -- there is no slot above 15
 pub accepts_beyond : (ss : List Slot) (to l : ℕ) → length ss ≤ to → false ≡ accepts l (slot_at ss to)

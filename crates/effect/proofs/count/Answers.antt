@@ -6,7 +6,7 @@ use Rattle.effect.proofs.count.Goals as goal
 
 pub overflow_cast-n : goal.overflow_cast-n
 overflow_cast-n c =
-    rw c.find-n.ensures (omega (arith, receivable_most c.args.table.now c.args.slot c.requires.0.goes.here c.label-own.result))
+    rw c.find-n.ensures (omega (arith, receivable_most c.args.table.now c.args.slot.number c.requires.0.goes.here c.label-own.result))
 
 pub returns : goal.returns
 returns c =

@@ -1,5 +1,4 @@
 -- `effect::execute` meets its contract. An arm has a line for its operands, one for what its effect asks, and one for what it does.
-use Rattle.table.proofs.Slots.{used_slot}
 use Rattle.effect.proofs.Effects.{decoded_as, sound, by_form}
 use Rattle.effect.proofs.execute.Goals as goal
 
@@ -22,9 +21,6 @@ add-requires c = search decoded_as
 
 pub subtract-requires : goal.subtract-requires
 subtract-requires c = search decoded_as
-
-pub set_pc-requires : goal.set_pc-requires
-set_pc-requires c = used_slot _ _ c.requires.0.goes.here
 
 pub zero-requires : goal.zero-requires
 zero-requires c = search decoded_as

@@ -2,7 +2,6 @@
 use Rattle.std.proofs.Common.{refl}
 use Rattle.machine.specs.State.{with_register}
 use Rattle.table.proofs.Change.{change_change}
-use Rattle.table.proofs.Slots.{used_slot}
 use Rattle.effect.proofs.Effects.{identity_done, goes_on, sound}
 use Rattle.effect.proofs.identity.Goals as goal
 
@@ -18,4 +17,4 @@ pub label-own-requires : goal.label-own-requires
 label-own-requires c = c.requires.0.goes.here
 
 pub set_register-requires : goal.set_register-requires
-set_register-requires c = (used_slot _ _ c.requires.0.goes.here, (sound c.requires.1).0)
+set_register-requires c = (sound c.requires.1).0

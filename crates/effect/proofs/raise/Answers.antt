@@ -2,7 +2,6 @@
 use Rattle.std.proofs.Common.{refl}
 use Rattle.machine.specs.State.{with_label}
 use Rattle.table.proofs.Change.{change_change}
-use Rattle.table.proofs.Slots.{used_slot}
 use Rattle.effect.proofs.Effects.{raise_done, raise_stopped, goes_on}
 use Rattle.effect.proofs.raise.Goals as goal
 
@@ -24,9 +23,6 @@ label-requires c = c.requires.goes.here
 
 pub clearance-requires : goal.clearance-requires
 clearance-requires c = c.requires.goes.here
-
-pub set_label-requires : goal.set_label-requires
-set_label-requires c = used_slot _ _ c.requires.goes.here
 
 pub set_kind-requires : goal.set_kind-requires
 set_kind-requires c = c.requires.goes.here

@@ -3,7 +3,6 @@ use Rattle.std.proofs.Common.{refl, arith}
 use Rattle.machine.specs.State.{with_register, without_message}
 use Rattle.table.specs.Table.{slots_in}
 use Rattle.table.proofs.Change.{change_change}
-use Rattle.table.proofs.Slots.{used_slot}
 use Rattle.effect.proofs.Effects.{message_out, goes_on}
 use Rattle.effect.proofs.take_message.Goals as goal
 
@@ -19,7 +18,7 @@ returns c =
     let x = c.message_value-value in
     let y = c.message_sender-sender in
     rw (c.gets.ensures, c.set_register.ensures, c.remove.ensures, change_change, change_change)
-    (message_out a.slot a.a a.b a.i (slots_in a.table.now) x.ensures y.ensures)
+    (message_out a.slot.number a.a a.b a.i (slots_in a.table.now) x.ensures y.ensures)
 
 pub message_value-value-requires : goal.message_value-value-requires
 message_value-value-requires c = c.requires.1
@@ -31,4 +30,4 @@ pub remove-requires : goal.remove-requires
 remove-requires c = omega (arith, c.requires.1)
 
 pub set_register-requires : goal.set_register-requires
-set_register-requires c = (used_slot _ _ c.requires.0.here, c.requires.2)
+set_register-requires c = c.requires.2

@@ -9,4 +9,4 @@ use Rattle.search.proofs.flowing.Goals as goal
 pub returns : goal.returns
 returns c i low =
     let a = c.args in
-    rw (label_flows (plane_in (window a.t.now a.s)) i a.label) (c.passing.ensures (λ x b. leb x (bit b a.label)) (λ plane b x few p. search rules) i low)
+    rw (label_flows (plane_in (window a.table.now.words a.slot.number)) i a.label) (c.passing.ensures (λ x b. leb x (bit b a.label)) (λ plane b x few p. search rules) i low)

@@ -10,4 +10,4 @@ use Rattle.search.proofs.labelled.Goals as goal
 pub returns : goal.returns
 returns c i low =
     let a = c.args in
-    rw (label_test 4 (plane_in (window a.t.now a.s)) i a.label (omega arith)) (c.passing.ensures (λ x b. eqb x (bit b a.label)) (λ plane b x few p. search rules) i low)
+    rw (label_test 4 (plane_in (window a.table.now.words a.slot.number)) i a.label (omega arith)) (c.passing.ensures (λ x b. eqb x (bit b a.label)) (λ plane b x few p. search rules) i low)

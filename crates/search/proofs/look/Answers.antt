@@ -10,13 +10,13 @@ pub returns-then-n-lt-LIMIT_PER_LABEL : goal.returns-then-n-lt-LIMIT_PER_LABEL
 returns-then-n-lt-LIMIT_PER_LABEL c =
     let a = c.args in
     let n = c.mailbox_length-n in
-    rw n.ensures.0 (sym (look_few a.label (task_at (slots_in a.t.now) a.s).mailbox 4 (omega (arith, n.ensures.0))))
+    rw n.ensures.0 (sym (look_few a.label (task_at (slots_in a.table.now) a.slot.number).mailbox 4 (omega (arith, n.ensures.0))))
 
 pub loop-nth-init : goal.loop-nth-init
 loop-nth-init c =
     let n = c.mailbox_length-n in
     let a = c.args in
-    going_first a.label (task_at (slots_in a.t.now) a.s).mailbox n.result c.of_label-left.result n.ensures.0 c.of_label-left.ensures
+    going_first a.label (task_at (slots_in a.table.now) a.slot.number).mailbox n.result c.of_label-left.result n.ensures.0 c.of_label-left.ensures
 
 pub loop-nth-preserved : goal.loop-nth-preserved
 loop-nth-preserved c = let h = c.loop-nth in rw c.rest-left.ensures (going_next _ _ _ h.left h._nth (omega arith) h.invariant)

@@ -5,4 +5,4 @@ use Rattle.search.proofs.Counting.{Going}
 use Rattle.search.proofs.look.Given as goal
 
 abbrev pub invariant-loop-nth : goal.invariant-loop-nth
-invariant-loop-nth l = Going l.label (task_at (slots_in l.t) l.s).mailbox l.n l.left l._nth
+invariant-loop-nth l = Going l.label (task_at (slots_in l.table) l.fn.slot.number).mailbox l.n l.left l._nth

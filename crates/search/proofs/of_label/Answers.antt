@@ -12,10 +12,7 @@ returns c =
     let n = c.mailbox_length in
     let a = c.args in
     rw c.below.ensures
-    (set_read a.t.now a.s c.requires.0 (λ m. eqb m.label a.label) c.labelled.result n.result c.labelled.ensures n.ensures.0 n.ensures.1)
-
-pub labelled-requires : goal.labelled-requires
-labelled-requires c = omega (arith, used_slot _ _ c.requires.0)
+    (set_read a.table.now a.slot.number c.requires.0 (λ m. eqb m.label a.label) c.labelled.result n.result c.labelled.ensures n.ensures.0 n.ensures.1)
 
 pub mailbox_length-requires : goal.mailbox_length-requires
 mailbox_length-requires c = c.requires.0

@@ -13,4 +13,4 @@ abbrev pub at_plane : (ℕ → ℕ → Bool) → List ℕ → ℕ → ℕ → Bo
 at_plane test w i b = test (bit i (plane_in w b)) b
 
 abbrev pub invariant-loop-b : goal.invariant-loop-b
-invariant-loop-b g l = (test : ℕ → ℕ → Bool) → Tells test (goal.F-post g l.failing) → Failed (at_plane test (window l.t l.s)) l.b l.failed
+invariant-loop-b g l = (test : ℕ → ℕ → Bool) → Tells test (goal.F-post g l.failing) → Failed (at_plane test (window l.table.words l.slot.number)) l.b l.failed
