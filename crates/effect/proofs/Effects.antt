@@ -22,7 +22,7 @@ use Rattle.machine.proofs.Mailbox.{mailbox_room_lem}
 use Rattle.machine.proofs.Search.{find_some, find_none}
 use Rattle.machine.proofs.Post.{deliver_more}
 use Rattle.table.specs.Change.{task_or, task_at, Used, message_at, change_slot, change, slot_with_kind, with_message}
-use Rattle.table.proofs.Change.{change_same, change_none, change_set, change_at, change_here}
+use Rattle.table.proofs.Change.{length_slots, change_same, change_none, change_set, change_at, change_here}
 use Rattle.effect.specs.Effects.{executed, accepts, RoomFor, GoesOn, Ready, WasDecoded}
 
 -- the place that was read, and 1 more
@@ -224,6 +224,9 @@ module _ (ss : List Slot) (to l : ℕ) where
 pub accepts_beyond : (ss : List Slot) (to l : ℕ) → length ss ≤ to → false ≡ accepts l (slot_at ss to)
 accepts_beyond ss to l past = rw (get_or-eq_default ss unused past)
 
+-- where a slot accepts nothing: its task is not live, or there is no such slot
+pub ruleset accepts_none = (accepts_stopped, accepts_beyond, length_slots)
+
 module _ (ss : List Slot) (to : ℕ) (m : Message) where
   -- the slots after the delivery, and whether the message joined
   abbrev Delivered : List Slot → Bool → Type 0
@@ -275,4 +278,4 @@ pub executed_as : (after ss : List Slot) (s : ℕ) (i j : Instruction) → i ≡
 executed_as after ss s i j e h = rw e h
 
 -- with the effects that have no function of their own
-pub ruleset by_form = (executed_as, end_done, set_done, go_done)
+pub ruleset by_form = (executed_as, end_done, set_done, go_done, decoded_as)

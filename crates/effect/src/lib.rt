@@ -105,6 +105,7 @@ fn identity(table: &mut Table, slot: SlotNumber, a: u8, b: u8)
 // ---- messages
 
 // The slot numbered `to` where it has a live task with fewer than four messages of the label. A number above 15 names no slot.
+#[tactic(auto, using(crate::proofs::Effects::accepts_none))]
 fn accepting(table: &Table, to: u32, label: u8) -> Option<SlotNumber>
     requires { label ≤ highest_label }
     ensures told { is_some result ≡ accepts label (slot_at (slots_in table.now) to) }
@@ -261,6 +262,7 @@ fn sandbox(table: &mut Table, slot: SlotNumber, a: u8, b: u8, c: u8)
 // ---- every instruction
 
 // Carries an instruction out.
+#[tactic(auto, using(crate::proofs::Effects::by_form))]
 pub fn execute(table: &mut Table, slot: SlotNumber, i: Instruction)
     requires { Ready slot.number (slots_in table.old) × WasDecoded i }
     ensures { slots_in table.new ≡ executed i slot.number (slots_in table.old) }

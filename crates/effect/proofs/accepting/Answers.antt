@@ -21,26 +21,16 @@ numbered_then false x to e = tt
 
 pub look-requires : goal.look-requires
 look-requires c =
-    (live_here (slots_in c.args.table.now) c.args.to (sym c.is_live.ensures ∙ c.if-is_live.true), c.requires)
+    let a = c.args in
+    (live_here (slots_in a.table.now) a.to (cc), c.requires)
 
 pub returns-then-is_live : goal.returns-then-is_live
 returns-then-is_live c =
     let a = c.args in
     let ms = (task_at (slots_in a.table.now) a.to).mailbox in
-    let live = sym c.is_live.ensures ∙ c.if-is_live.true in
     let room = ap (λ (r : Looked). r.room) c.look.ensures ∙ room_is_the_send_rules a.label ms in
     rw c.then_some.ensures
     (record {
-      told = is_some_then c.look.result.room _ ∙ room ∙ accepts_live (slots_in a.table.now) a.to a.label live;
+      told = is_some_then c.look.result.room _ ∙ room ∙ accepts_live (slots_in a.table.now) a.to a.label (cc);
       numbered = numbered_then c.look.result.room _ a.to refl;
     })
-
-pub returns-else-is_live-clause-told : goal.returns-else-is_live-clause-told
-returns-else-is_live-clause-told c =
-    let a = c.args in
-    accepts_stopped (slots_in a.table.now) a.to a.label (sym c.is_live.ensures ∙ c.if-is_live.false)
-
-pub returns-else-to-lt16-clause-told : goal.returns-else-to-lt16-clause-told
-returns-else-to-lt16-clause-told c =
-    let a = c.args in
-    accepts_beyond (slots_in a.table.now) a.to a.label (omega (arith, length_slots a.table.now.words))

@@ -4,5 +4,5 @@ use Rattle.machine.specs.Inner.{bottom_of}
 use Rattle.table.specs.Table.{slots_in}
 use Rattle.turn.proofs.bottom.Given as goal
 
-abbrev pub invariant-loop-slot : goal.invariant-loop-slot
-invariant-loop-slot l = l.slot ≤ bottom_of (slots_in l.table)
+abbrev pub invariant-loop-number : goal.invariant-loop-number
+invariant-loop-number l = l.number ≤ bottom_of (slots_in l.table)

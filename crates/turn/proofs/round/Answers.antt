@@ -1,5 +1,5 @@
 use Prim.Native.Nat.{ℕ, ◌+◌, ◌-◌, ◌%◌, ◌≤◌, ◌<◌, min}
-use mathlib.Core.Path.{◌≡◌}
+use mathlib.Core.Path.{◌≡◌, sym, ◌∙◌}
 use mathlib.Core.Logic.{dite}
 use mathlib.Core.List.{List}
 use mathlib.Core.Bool.{false}
@@ -10,9 +10,9 @@ use Rattle.machine.specs.State.{Slot, State, slot_at, has_live_task}
 use Rattle.machine.proofs.Bounds.{idle_below, idle_above}
 use Rattle.table.specs.Table.{slots_in}
 use Rattle.turn.specs.Answer.{running}
-use Rattle.turn.proofs.Steps.{kind_live, kind_idle, Ran, ran_none, ran_live, ran_past, ran_valid, ran_within}
+use Rattle.turn.proofs.Steps.{Ran, ran_none, ran_live, ran_past, ran_valid, ran_within}
 use Rattle.turn.proofs.round.Goals as goal
-use Rattle.turn.proofs.round.Goals.{then-kind-eq1, else-kind-eq1}
+use Rattle.turn.proofs.round.Goals.{then-is_live, else-is_live}
 
 -- a turn more that met a live task, or none
 one_met : (from idle slot : ℕ) → from + idle ≤ slot → slot - from - idle + 1 ≡ slot + 1 - from - idle
@@ -38,8 +38,8 @@ further s program first end from slot to idle low begun l h few ran counted =
     (omega arith, few, rw (is, ← counted) ran)
 
 -- the first slots have no live task
-pub loop-slot-init : goal.loop-slot-init
-loop-slot-init c =
+pub loop-number-init : goal.loop-number-init
+loop-number-init c =
     let a = c.args in
     let low = leb-true a.first 15 c.requires.0.turn_slot in
     let m = min c.max-from.result a.end in
@@ -54,40 +54,40 @@ loop-slot-init c =
 pub act-requires : goal.act-requires
 act-requires c =
     let a = c.args in
-    let h = c.loop-slot in
+    let h = c.loop-number in
     let s = running a.program.now a.first a.table.now in
-    let at = at_hand s a.program.now a.first a.end h.slot _ (omega arith) c.requires.2 h.invariant.2 in
-    (ran_valid at c.requires.0, kind_live (slots_in h.table) h.slot c.kind.ensures c.if-kind-eq1.true)
+    let at = at_hand s a.program.now a.first a.end h.number _ (omega arith) c.requires.2 h.invariant.2 in
+    (ran_valid at c.requires.0, sym c.is_live.ensures ∙ c.if-is_live.true)
 
 -- the turn of a live task, or of a slot without one
-pub loop-slot-preserved : goal.loop-slot-preserved
-loop-slot-preserved c =
+pub loop-number-preserved : goal.loop-number-preserved
+loop-number-preserved c =
     let a = c.args in
-    let h = c.loop-slot in
+    let h = c.loop-number in
     let from = c.max-from.result in
     let ss = slots_in h.table in
     let s = running a.program.now a.first a.table.now in
-    let at = at_hand s a.program.now a.first a.end h.slot _ (omega arith) c.requires.2 h.invariant.2 in
-    let more : h.slot + 1 - a.first ≡ h.slot - a.first + 1 = omega (arith, h.invariant.0) in
-    elim c.if-kind-eq1.branch [
-      | then-kind-eq1 w ↦ rw (w.table-is, w.idle-is)
-          (further s a.program.now a.first a.end from h.slot (h.slot + 1) h.idle h.invariant.0 h.auto.slot (omega arith) (omega arith) (omega (arith, h.invariant.1))
-          (rw more (ran_live at (kind_live ss h.slot c.kind.ensures w.if-kind-eq1.true) w.act.ensures)) (one_met from h.idle h.slot h.invariant.1))
-      | else-kind-eq1 w ↦ rw (w.table-is, w.idle-is)
-          (let none = kind_idle ss h.slot c.kind.ensures w.if-kind-eq1.false in
-          let past = ran_past at 1 (omega (arith, c.requires.2)) (omega (arith, c.requires.2)) (λ j m g. let is : j ≡ h.slot = omega arith in rw is none) in
-          further s a.program.now a.first a.end from h.slot (h.slot + 1) (h.idle + 1) h.invariant.0 h.auto.slot (omega arith) (omega arith) (omega (arith, h.invariant.1))
-          (rw more past) (none_met from h.idle h.slot h.invariant.1))
+    let at = at_hand s a.program.now a.first a.end h.number _ (omega arith) c.requires.2 h.invariant.2 in
+    let more : h.number + 1 - a.first ≡ h.number - a.first + 1 = omega (arith, h.invariant.0) in
+    elim c.if-is_live.branch [
+      | then-is_live w ↦ rw (w.table-is, w.idle-is)
+          (further s a.program.now a.first a.end from h.number (h.number + 1) h.idle h.invariant.0 h.auto.number (omega arith) (omega arith) (omega (arith, h.invariant.1))
+          (rw more (ran_live at (sym c.is_live.ensures ∙ w.if-is_live.true) w.act.ensures)) (one_met from h.idle h.number h.invariant.1))
+      | else-is_live w ↦ rw (w.table-is, w.idle-is)
+          (let none = sym c.is_live.ensures ∙ w.if-is_live.false in
+          let past = ran_past at 1 (omega (arith, c.requires.2)) (omega (arith, c.requires.2)) (λ j m g. let is : j ≡ h.number = omega arith in rw is none) in
+          further s a.program.now a.first a.end from h.number (h.number + 1) (h.idle + 1) h.invariant.0 h.auto.number (omega arith) (omega arith) (omega (arith, h.invariant.1))
+          (rw more past) (none_met from h.idle h.number h.invariant.1))
     ]
 
 -- the last slots have none
 pub returns : goal.returns
 returns c =
     let a = c.args in
-    let h = c.loop-slot in
+    let h = c.loop-number in
     let s = running a.program.now a.first a.table.now in
-    let m = min h.slot a.end in
-    let at_end : Ran s a.program.now (a.end - a.first) (a.end % 16) (slots_in h.table) (h.slot - c.max-from.result - h.idle) =
+    let m = min h.number a.end in
+    let at_end : Ran s a.program.now (a.end - a.first) (a.end % 16) (slots_in h.table) (h.number - c.max-from.result - h.idle) =
     dite (dec_lt m a.end)
     (λ l.
     let here : m % 16 ≡ m = omega (arith, c.requires.2) in
@@ -98,5 +98,5 @@ returns c =
     let slot : m + (a.end - m) ≡ a.end = omega arith in
     rw slot at (rw turns at past))
     (λ l. let all : m ≡ a.end = omega arith in rw all at h.invariant.2) in
-    let last : c.max-stop.result ≡ h.slot = omega arith in
+    let last : c.max-stop.result ≡ h.number = omega arith in
     rw last (at_end.met_is, at_end.state)

@@ -4,5 +4,5 @@ use Rattle.machine.specs.Inner.{top_of}
 use Rattle.table.specs.Table.{slots_in}
 use Rattle.turn.proofs.top.Given as goal
 
-abbrev pub invariant-loop-slot : goal.invariant-loop-slot
-invariant-loop-slot l = l.top ≡ top_of l.slot (slots_in l.table)
+abbrev pub invariant-loop-number : goal.invariant-loop-number
+invariant-loop-number l = l.top ≡ top_of l.number (slots_in l.table)
