@@ -1,13 +1,12 @@
 -- `effect::accepting` meets its contract: a slot, a live task in it, and then room.
-use Rattle.std.proofs.Common.{ℕ, ◌≡◌, Bool, true, false, is_some, IfSome, ap, ◌∙◌, sym, refl, arith}
+use Rattle.std.proofs.Common.{ℕ, ◌≡◌, Bool, true, false, is_some, IfSome, ap, ◌∙◌, refl}
 use Rattle.std.specs.Bool.{then_some}
 use Rattle.table.specs.Table.{slots_in}
 use Rattle.table.specs.Change.{task_at}
-use Rattle.table.proofs.Change.{length_slots}
 use Rattle.machine.specs.declared.SlotNumber.{SlotNumber}
 use Rattle.search.specs.declared.Looked.{Looked}
 use Rattle.search.proofs.Claims.{room_is_the_send_rules}
-use Rattle.effect.proofs.Effects.{live_here, accepts_live, accepts_stopped, accepts_beyond}
+use Rattle.effect.proofs.Effects.{accepts_live}
 use Rattle.effect.proofs.accepting.Goals as goal
 
 -- the slot is given where the test holds, and it is that one
@@ -18,11 +17,6 @@ is_some_then false x = refl
 numbered_then : (b : Bool) (x : SlotNumber) (to : ℕ) → x.number ≡ to → IfSome (then_some b x) (λ s. s.number ≡ to)
 numbered_then true x to e = e
 numbered_then false x to e = tt
-
-pub look-requires : goal.look-requires
-look-requires c =
-    let a = c.args in
-    (live_here (slots_in a.table.now) a.to (cc), c.requires)
 
 pub returns-then-is_live : goal.returns-then-is_live
 returns-then-is_live c =

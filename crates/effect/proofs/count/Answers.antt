@@ -13,11 +13,5 @@ returns c =
     rw c.gets.ensures
     (count_done c.requires.0 c.args.a c.label-own.ensures c.find-n.ensures)
 
-pub label-own-requires : goal.label-own-requires
-label-own-requires c = c.requires.0.goes.here
-
-pub find-n-requires : goal.find-n-requires
-find-n-requires c = c.requires.0.goes.here
-
 pub gets-requires : goal.gets-requires
 gets-requires c = (c.requires.0.goes, (sound c.requires.1).0)

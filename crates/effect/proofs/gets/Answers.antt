@@ -4,9 +4,3 @@ use Rattle.effect.proofs.gets.Goals as goal
 
 pub returns : goal.returns
 returns c = rw (c.set_register.ensures, c.advance.ensures, change_change)
-
-pub advance-requires : goal.advance-requires
-advance-requires c = c.requires.0
-
-pub set_register-requires : goal.set_register-requires
-set_register-requires c = c.requires.1

@@ -13,8 +13,5 @@ returns c =
     rw (c.gets.ensures, c.set_register.ensures, change_change)
     (identity_done c.requires.0 _ _ c.label-own.ensures)
 
-pub label-own-requires : goal.label-own-requires
-label-own-requires c = c.requires.0.goes.here
-
 pub set_register-requires : goal.set_register-requires
 set_register-requires c = (sound c.requires.1).0

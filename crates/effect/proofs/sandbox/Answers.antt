@@ -26,15 +26,3 @@ returns-then-c-spare c =
 
 pub returns-else-c-spare : goal.returns-else-c-spare
 returns-else-c-spare c = rw c.set_kind.ensures (sandbox_stopped c.requires.0 _ _ _ c.spare-spare.ensures (omega arith))
-
-pub spare-spare-requires : goal.spare-spare-requires
-spare-spare-requires c = c.requires.0.goes.here
-
-pub label-own-requires : goal.label-own-requires
-label-own-requires c = c.requires.0.goes.here
-
-pub clearance-clearance-requires : goal.clearance-clearance-requires
-clearance-clearance-requires c = c.requires.0.goes.here
-
-pub set_kind-requires : goal.set_kind-requires
-set_kind-requires c = c.requires.0.goes.here

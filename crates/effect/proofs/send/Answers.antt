@@ -2,7 +2,6 @@
 use Rattle.std.proofs.Common.{◌≡◌, ℕ, List, sym, refl, ◌∙◌, true}
 use Rattle.label.specs.Label.{flows}
 use Rattle.instruction.specs.declared.Instruction.TheVariants.{Send}
-use Rattle.machine.specs.declared.Message.{Message}
 use Rattle.machine.specs.State.{Slot, next, register}
 use Rattle.machine.specs.Effect.{deliver}
 use Rattle.machine.specs.Turn.{perform}
@@ -55,22 +54,13 @@ returns-in_default c =
 pub returns-else-flows : goal.returns-else-flows
 returns-else-flows c = rw c.set_kind.ensures (send_stopped c.requires.0 _ _ _ c.label.ensures (sym c.flows.ensures ∙ c.if-flows.false))
 
-pub label-requires : goal.label-requires
-label-requires c = c.requires.0.goes.here
-
 pub register-to-requires : goal.register-to-requires
 register-to-requires c = (c.requires.0.goes.here, (sound c.requires.1).0)
 
 pub register-value-requires : goal.register-value-requires
 register-value-requires c = (c.requires.0.goes.here, (sound c.requires.1).2)
 
-pub advance-requires : goal.advance-requires
-advance-requires c = c.requires.0.goes
-
 pub accepting-requires : goal.accepting-requires
 accepting-requires c =
     let a = c.args in
     (room a.slot.number a.a a.b a.c (slots_in a.table.now) (slots_in c.advance.new.table) c.requires.0 c.requires.1 c.advance.ensures c.register-to.result).0
-
-pub set_kind-requires : goal.set_kind-requires
-set_kind-requires c = c.requires.0.goes.here

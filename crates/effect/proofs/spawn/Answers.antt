@@ -1,5 +1,4 @@
 -- `effect::spawn` meets its contract: a new task, then its register 0.
-use Rattle.std.proofs.Common.{arith}
 use Rattle.table.proofs.Change.{change_set}
 use Rattle.effect.proofs.spawn.Goals as goal
 

@@ -10,6 +10,3 @@ returns-else-register-eq0 c = rw c.advance.ensures (zero_goes_on c.requires.0 _ 
 
 pub register-requires : goal.register-requires
 register-requires c = (c.requires.0.goes.here, (sound c.requires.1).0)
-
-pub advance-requires : goal.advance-requires
-advance-requires c = c.requires.0.goes
