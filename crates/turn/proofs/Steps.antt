@@ -1,12 +1,10 @@
 -- Laws of turns over the table: what a live task does with its turn, one turn, and one turn more.
 use Prim.Native.Nat.{ℕ, ◌+◌, ◌*◌, ◌%◌, ◌≤◌, ◌<◌}
-use mathlib.Core.Logic.{◌≢◌}
 use mathlib.Core.Path.{◌≡◌, refl, sym, ap, subst, ◌∙◌}
 use mathlib.Core.Bool.{true, false, cond}
 use mathlib.Core.List.{List}
 use native.Mathlib.Omega.{arith}
 use borrow.Author.Tests.{eq-eqb, ne_eqb}
-use lib.Dec.{eqb}
 use lib.ListN.{length, get_or, set}
 use Rattle.std.specs.Prelude.{Some}
 use Rattle.label.specs.Label.{flows, join}
@@ -23,7 +21,7 @@ use Rattle.machine.specs.Inner.{Within}
 use Rattle.machine.proofs.Rules.{TaskFacts, size_facts, slot_facts}
 use Rattle.machine.proofs.Machine.{turns_valid, turns_none, turns_more, turns_add, busy_none, busy_more, busy_add}
 use Rattle.machine.proofs.Bounds.{turns_within, turns_idle}
-use Rattle.table.specs.Change.{task_or, task_at, Used, slot_with_kind}
+use Rattle.table.specs.Change.{task_or, task_at, slot_with_kind}
 use Rattle.turn.specs.Answer.{running_at}
 use Rattle.effect.specs.Effects.{executed, Ready, WasDecoded}
 use Rattle.effect.proofs.Effects.{kind_here, live_here, valid_room}

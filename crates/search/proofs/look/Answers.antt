@@ -1,6 +1,5 @@
 use mathlib.Core.Path.{sym}
 use native.Mathlib.Omega.{arith}
-use lib.Count.{trailing_le}
 use Rattle.table.specs.Table.{slots_in}
 use Rattle.table.specs.Change.{task_at}
 use Rattle.search.proofs.Counting.{look_few, going_first, going_next, going_none, going_some}
@@ -29,15 +28,3 @@ returns-else-left-eq0 c =
     let h = c.loop-nth in
     let n = c.mailbox_length-n in
     going_some _ _ _ h.left h._nth (omega arith) h.invariant n.ensures.1 c.if-left-eq0.false
-
-pub mailbox_length-n-requires : goal.mailbox_length-n-requires
-mailbox_length-n-requires c = c.requires.0
-
-pub of_label-left-requires : goal.of_label-left-requires
-of_label-left-requires c = c.requires
-
-pub overflow_cast-result : goal.overflow_cast-result
-overflow_cast-result c = omega (arith, trailing_le 64 c.loop-nth.left)
-
-pub overflow_add-result : goal.overflow_add-result
-overflow_add-result c = omega (arith, trailing_le 64 c.loop-nth.left)

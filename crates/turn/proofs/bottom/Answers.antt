@@ -28,6 +28,3 @@ returns c =
     let table = c.args.table.now in
     let all : h.number ≡ 16 = omega arith in
     rw all at (first_past in_use (slots_in table) h.number (omega (arith, length_slots table.words)) h.invariant)
-
-pub loop-number-init : goal.loop-number-init
-loop-number-init c = omega arith

@@ -57,7 +57,7 @@ act-requires c =
     let h = c.loop-number in
     let s = running a.program.now a.first a.table.now in
     let at = at_hand s a.program.now a.first a.end h.number _ (omega arith) c.requires.2 h.invariant.2 in
-    (ran_valid at c.requires.0, sym c.is_live.ensures ∙ c.if-is_live.true)
+    (ran_valid at c.requires.0, (cc))
 
 -- the turn of a live task, or of a slot without one
 pub loop-number-preserved : goal.loop-number-preserved

@@ -17,6 +17,3 @@ returns c =
 
 pub loop-number-init : goal.loop-number-init
 loop-number-init c = top_none _
-
-pub top_behind-top-requires : goal.top_behind-top-requires
-top_behind-top-requires c = c.requires

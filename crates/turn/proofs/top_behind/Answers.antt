@@ -1,8 +1,6 @@
 -- `turn::top_behind` meets its contract: a used slot and its spare lie within the sixteen.
-use Prim.Native.Nat.{◌+◌, ◌<◌}
 use mathlib.Core.Path.{◌≡◌, refl, sym, ◌∙◌}
 use mathlib.Core.Bool.{true, false, not}
-use native.Mathlib.Omega.{arith}
 use Rattle.machine.specs.State.{Slot, unused, used, slot_at, is_unused}
 use Rattle.table.specs.Table.{slots_in}
 use Rattle.table.specs.Change.{task_or}
@@ -25,8 +23,3 @@ pub returns-else-is_used : goal.returns-else-is_used
 returns-else-is_used c =
     let a = c.args in
     rw (unused_here (slot_at (slots_in a.table.now) a.slot.number) (sym c.is_used.ensures ∙ c.if-is_used.false))
-
-pub spare-requires : goal.spare-requires
-spare-requires c =
-    let a = c.args in
-    used_here (slot_at (slots_in a.table.now) a.slot.number) (sym c.is_used.ensures ∙ c.if-is_used.true)
