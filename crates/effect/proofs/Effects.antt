@@ -22,12 +22,8 @@ use Rattle.machine.proofs.Mailbox.{mailbox_room_lem}
 use Rattle.machine.proofs.Search.{find_some, find_none}
 use Rattle.machine.proofs.Post.{deliver_more}
 use Rattle.table.specs.Change.{task_or, task_at, Used, message_at, change_slot, change, slot_with_kind, with_message}
-use Rattle.table.proofs.Change.{change_same, change_none, change_set, change_at, change_here}
+use Rattle.table.proofs.Change.{length_slots, change_same, change_none, change_set, change_at, change_here}
 use Rattle.effect.specs.Effects.{executed, accepts, RoomFor, GoesOn, Ready, WasDecoded}
-
--- what y is added to where the sum wraps to x
-subtracted : (z x y : ℕ) → z < 2 ^ 32 → y < 2 ^ 32 → (z + y) % 2 ^ 32 ≡ x → z ≡ (x + 2 ^ 32 - y) % 2 ^ 32
-subtracted z x y h g e = omega arith
 
 -- the place that was read, and 1 more
 pub place_up : (s : ℕ) (ss : List Slot) → change s (with_pc ((task_at ss s).pc + 1)) ss ≡ change s next ss
@@ -82,11 +78,12 @@ module _ {s : ℕ} {ss : List Slot} (ready : Ready s ss) where
   unfolding execute
   add_done a b c {z = z} e f sum = alone (Add a b c) (λ t. next (with_register a z t)) (rw (sum, e, f))
 
-  pub subtract_done : (a b c : ℕ) {x y z : ℕ} → x ≡ register (task_at ss s) b → y ≡ register (task_at ss s) c
-      → z < 2 ^ 32 → y < 2 ^ 32 → (z + y) % 2 ^ 32 ≡ x → change s (λ t. next (with_register a z t)) ss ≡ executed (Subtract a b c) s ss
+  pub subtract_done : (a b c : ℕ) {x y : ℕ} → x ≡ register (task_at ss s) b → y ≡ register (task_at ss s) c → y < 2 ^ 32
+      → change s (λ t. next (with_register a ((x + (2 ^ 32 - y)) % 2 ^ 32) t)) ss ≡ executed (Subtract a b c) s ss
   unfolding execute
-  subtract_done a b c {x} {y} {z} e f h g back =
-      alone (Subtract a b c) (λ t. next (with_register a z t)) (rw (← e, ← f, subtracted z x y h g back))
+  subtract_done a b c {x} {y} e f h =
+      let same : x + (2 ^ 32 - y) ≡ x + 2 ^ 32 - y = omega arith in
+      alone (Subtract a b c) (λ t. next (with_register a ((x + (2 ^ 32 - y)) % 2 ^ 32) t)) (rw (← e, ← f, same))
 
   pub go_done : (after : List Slot) (a : ℕ) → after ≡ change s (with_pc a) ss → after ≡ executed (Go a) s ss
   unfolding execute
@@ -201,25 +198,34 @@ accepts_room ss to l = there (slot_at ss to)
     there unused e room = let z : ◌≡◌ {A = ℕ} 0 1 = cc in absurd (omega arith)
     there (used t) e room = (refl, room.1 (and_both (is_live t) (has_room l t.mailbox) e).1)
 
--- k: the kind that was read
-module _ (ss : List Slot) (to l : ℕ) {k : ℕ} (kind : k ≡ (task_at ss to).kind) where
-  pub accepts_live : k ≡ 1 → has_room l (task_at ss to).mailbox ≡ accepts l (slot_at ss to)
-  accepts_live live = by_room (slot_at ss to) (sym kind ∙ live)
-    where
-      by_room : (x : Slot) → (task_or x).kind ≡ 1 → has_room l (task_or x).mailbox ≡ accepts l x
-      by_room unused e = absurd (omega arith)
-      by_room (used t) e = rw e
+-- a live task is there
+pub live_here : (ss : List Slot) (s : ℕ) → has_live_task (slot_at ss s) ≡ true → Used s ss
+live_here ss s = there (slot_at ss s)
+  where
+    there : (x : Slot) → has_live_task x ≡ true → x ≡ used (task_or x)
+    there unused e = cc
+    there (used t) e = refl
 
-  pub accepts_stopped : k ≢ 1 → false ≡ accepts l (slot_at ss to)
-  accepts_stopped stopped = not_live (slot_at ss to) (λ e. stopped (kind ∙ e))
+module _ (ss : List Slot) (to l : ℕ) where
+  accepts_both : accepts l (slot_at ss to) ≡ (has_live_task (slot_at ss to) && has_room l (task_at ss to).mailbox)
+  accepts_both = both (slot_at ss to)
     where
-      not_live : (x : Slot) → (task_or x).kind ≢ 1 → false ≡ accepts l x
-      not_live unused e = refl
-      not_live (used t) e = rw (ne_eqb t.kind 1 e)
+      both : (x : Slot) → accepts l x ≡ (has_live_task x && has_room l (task_or x).mailbox)
+      both unused = refl
+      both (used t) = refl
+
+  pub accepts_live : has_live_task (slot_at ss to) ≡ true → has_room l (task_at ss to).mailbox ≡ accepts l (slot_at ss to)
+  accepts_live live = rw (accepts_both, live)
+
+  pub accepts_stopped : has_live_task (slot_at ss to) ≡ false → false ≡ accepts l (slot_at ss to)
+  accepts_stopped stopped = rw (accepts_both, stopped)
 
 -- there is no slot above 15
 pub accepts_beyond : (ss : List Slot) (to l : ℕ) → length ss ≤ to → false ≡ accepts l (slot_at ss to)
 accepts_beyond ss to l past = rw (get_or-eq_default ss unused past)
+
+-- where a slot accepts nothing: its task is not live, or there is no such slot
+pub ruleset accepts_none = (accepts_stopped, accepts_beyond, length_slots)
 
 module _ (ss : List Slot) (to : ℕ) (m : Message) where
   -- the slots after the delivery, and whether the message joined
@@ -272,4 +278,4 @@ pub executed_as : (after ss : List Slot) (s : ℕ) (i j : Instruction) → i ≡
 executed_as after ss s i j e h = rw e h
 
 -- with the effects that have no function of their own
-pub ruleset by_form = (executed_as, end_done, set_done, go_done)
+pub ruleset by_form = (executed_as, end_done, set_done, go_done, decoded_as)

@@ -1,7 +1,7 @@
 // The effect of each instruction on the table, and a message's delivery. They rest on a slot that is ready for an instruction.
 #![tactic(auto)]
 
-ghost use Rattle.std.specs.Prelude.{◌≡◌, ◌<◌, ◌≤◌, length, nat_lt, slice_set};
+ghost use Rattle.std.specs.Prelude.{◌≡◌, ◌<◌, ◌≤◌, length, nat_lt, slice_set, is_some, IfSome};
 ghost use Rattle.label.specs.Label.{flows};
 ghost use Rattle.instruction.specs.declared.Instruction.TheVariants.{Copy, Add, Subtract, Zero, Raise, Send, Take, Poll, Sandbox, Identity, Count};
 ghost use Rattle.machine.specs.Limits.{highest_label};
@@ -14,117 +14,123 @@ ghost use Rattle.table.specs.Change.{task_at, change};
 ghost use Rattle.effect.specs.Effects.{executed, accepts, RoomFor, GoesOn, Ready, WasDecoded};
 
 use instruction::Instruction;
+use machine::{Kind, Message, SlotNumber};
+use table::Table;
 
 // ---- registers and place
 
 // The place goes up by 1.
-fn advance(table: &mut table::Table, slot: u8)
-    requires { GoesOn slot (slots_in table.old) }
-    ensures { slots_in table.new ≡ change slot next (slots_in table.old) }
+fn advance(table: &mut Table, slot: SlotNumber)
+    requires { GoesOn slot.number (slots_in table.old) }
+    ensures { slots_in table.new ≡ change slot.number next (slots_in table.old) }
 {
-    let pc = table::pc(table, slot as usize);
-    table::set_pc(table, slot as usize, pc + 1);
+    let pc = table.pc(slot);
+    table.set_pc(slot, pc + 1);
 }
 
 // The place goes up, and register a gets x.
-fn gets(table: &mut table::Table, slot: u8, a: u8, x: u32)
-    requires { GoesOn slot (slots_in table.old) × (a < 8) }
-    ensures { slots_in table.new ≡ change slot (λ t. next (with_register a x t)) (slots_in table.old) }
+fn gets(table: &mut Table, slot: SlotNumber, a: u8, x: u32)
+    requires { GoesOn slot.number (slots_in table.old) × (a < 8) }
+    ensures { slots_in table.new ≡ change slot.number (λ t. next (with_register a x t)) (slots_in table.old) }
 {
     advance(table, slot);
-    table::set_register(table, slot as usize, a as usize, x);
+    table.set_register(slot, a as usize, x);
 }
 
 // Register a gets register b.
-fn copy(table: &mut table::Table, slot: u8, a: u8, b: u8)
-    requires { Ready slot (slots_in table.old) × WasDecoded (Copy a b) }
-    ensures { slots_in table.new ≡ executed (Copy a b) slot (slots_in table.old) }
+fn copy(table: &mut Table, slot: SlotNumber, a: u8, b: u8)
+    requires { Ready slot.number (slots_in table.old) × WasDecoded (Copy a b) }
+    ensures { slots_in table.new ≡ executed (Copy a b) slot.number (slots_in table.old) }
 {
-    let x = table::register(table, slot as usize, b as usize);
+    let x = table.register(slot, b as usize);
     gets(table, slot, a, x);
 }
 
 // Register a gets the sum of registers b and c, wrapped to 32 bits.
-fn add(table: &mut table::Table, slot: u8, a: u8, b: u8, c: u8)
-    requires { Ready slot (slots_in table.old) × WasDecoded (Add a b c) }
-    ensures { slots_in table.new ≡ executed (Add a b c) slot (slots_in table.old) }
+fn add(table: &mut Table, slot: SlotNumber, a: u8, b: u8, c: u8)
+    requires { Ready slot.number (slots_in table.old) × WasDecoded (Add a b c) }
+    ensures { slots_in table.new ≡ executed (Add a b c) slot.number (slots_in table.old) }
 {
-    let x = table::register(table, slot as usize, b as usize);
-    let y = table::register(table, slot as usize, c as usize);
-    gets(table, slot, a, std::num::wrapping_add_u32(x, y));
+    let x = table.register(slot, b as usize);
+    let y = table.register(slot, c as usize);
+    gets(table, slot, a, x.wrapping_add(y));
 }
 
 // Register a gets register b less register c, wrapped to 32 bits.
-fn subtract(table: &mut table::Table, slot: u8, a: u8, b: u8, c: u8)
-    requires { Ready slot (slots_in table.old) × WasDecoded (Subtract a b c) }
-    ensures { slots_in table.new ≡ executed (Subtract a b c) slot (slots_in table.old) }
+fn subtract(table: &mut Table, slot: SlotNumber, a: u8, b: u8, c: u8)
+    requires { Ready slot.number (slots_in table.old) × WasDecoded (Subtract a b c) }
+    ensures { slots_in table.new ≡ executed (Subtract a b c) slot.number (slots_in table.old) }
 {
-    let x = table::register(table, slot as usize, b as usize);
-    let y = table::register(table, slot as usize, c as usize);
-    gets(table, slot, a, std::num::wrapping_sub_u32(x, y));
+    let x = table.register(slot, b as usize);
+    let y = table.register(slot, c as usize);
+    gets(table, slot, a, x.wrapping_sub(y));
 }
 
 // The place becomes b if register a is 0.
-fn zero(table: &mut table::Table, slot: u8, a: u8, b: u8)
-    requires { Ready slot (slots_in table.old) × WasDecoded (Zero a b) }
-    ensures { slots_in table.new ≡ executed (Zero a b) slot (slots_in table.old) }
+fn zero(table: &mut Table, slot: SlotNumber, a: u8, b: u8)
+    requires { Ready slot.number (slots_in table.old) × WasDecoded (Zero a b) }
+    ensures { slots_in table.new ≡ executed (Zero a b) slot.number (slots_in table.old) }
 {
-    if table::register(table, slot as usize, a as usize) == 0 {
-        table::set_pc(table, slot as usize, b as u32);
+    if table.register(slot, a as usize) == 0 {
+        table.set_pc(slot, b as u32);
     } else {
         advance(table, slot);
     }
 }
 
 // The task's own label is joined with a. Where that leaves the task's clearance, the task gets kind 6 and its label stays.
-fn raise(table: &mut table::Table, slot: u8, a: u8)
-    requires { Ready slot (slots_in table.old) }
-    ensures { slots_in table.new ≡ executed (Raise a) slot (slots_in table.old) }
+fn raise(table: &mut Table, slot: SlotNumber, a: u8)
+    requires { Ready slot.number (slots_in table.old) }
+    ensures { slots_in table.new ≡ executed (Raise a) slot.number (slots_in table.old) }
 {
-    let raised = label::join(table::label(table, slot as usize), a);
-    if label::is_subset(raised, table::clearance(table, slot as usize)) {
-        table::set_label(table, slot as usize, raised);
+    let raised = label::join(table.label(slot), a);
+    if label::is_subset(raised, table.clearance(slot)) {
+        table.set_label(slot, raised);
         advance(table, slot);
     } else {
-        table::set_kind(table, slot as usize, 6);
+        table.set_kind(slot, Kind::StoppedByClearance as u8);
     }
 }
 
 // Register a gets the task's own label, then register b its own slot.
-fn identity(table: &mut table::Table, slot: u8, a: u8, b: u8)
-    requires { Ready slot (slots_in table.old) × WasDecoded (Identity a b) }
-    ensures { slots_in table.new ≡ executed (Identity a b) slot (slots_in table.old) }
+fn identity(table: &mut Table, slot: SlotNumber, a: u8, b: u8)
+    requires { Ready slot.number (slots_in table.old) × WasDecoded (Identity a b) }
+    ensures { slots_in table.new ≡ executed (Identity a b) slot.number (slots_in table.old) }
 {
-    let own = table::label(table, slot as usize);
-    table::set_register(table, slot as usize, a as usize, own as u32);
-    gets(table, slot, b, slot as u32);
+    let own = table.label(slot);
+    table.set_register(slot, a as usize, own as u32);
+    gets(table, slot, b, slot.number as u32);
 }
 
 // ---- messages
 
-// Whether slot `to` has a live task with fewer than four messages of the label. A number above 15 names no slot.
-fn accepts(table: &table::Table, to: u32, label: u8) -> bool
+// The slot numbered `to` where it has a live task with fewer than four messages of the label. A number above 15 names no slot.
+#[tactic(auto, using(crate::proofs::Effects::accepts_none))]
+fn accepting(table: &Table, to: u32, label: u8) -> Option<SlotNumber>
     requires { label ≤ highest_label }
-    ensures { result ≡ accepts label (slot_at (slots_in table.now) to) }
+    ensures told { is_some result ≡ accepts label (slot_at (slots_in table.now) to) }
+    ensures numbered { IfSome result (λ slot. slot.number ≡ to) }
 {
     if to < 16 {
-        if table::kind(table, to as usize) == 1 {
-            return search::look(table, to as usize, label).room;
+        let slot = SlotNumber {
+            number: to as usize,
+        };
+        if table.is_live(slot) {
+            return search::look(table, slot, label).room.then_some(slot);
         }
     }
-    false
+    None
 }
 
 // The message joins the mailbox of a live task that has fewer than four of its label; in all other cases it is dropped. Tells
 // whether it joined.
-pub fn deliver(table: &mut table::Table, to: u32, label: u8, sender: u8, value: u32) -> bool
-    requires { RoomFor label (task_at (slots_in table.old) to).mailbox }
-    ensures { (slots_in table.new
-        ≡ perform (deliver to (record { label = label; sender = sender; value = value })) (slots_in table.old))
+pub fn deliver(table: &mut Table, to: u32, message: Message) -> bool
+    requires { RoomFor message.label (task_at (slots_in table.old) to).mailbox }
+    ensures { (slots_in table.new ≡ perform (deliver to message) (slots_in table.old))
         × (result ≡ has_more to (slots_in table.old) (slots_in table.new)) }
 {
-    if accepts(table, to, label) {
-        table::append(table, to as usize, label, sender, value);
+    if let Some(receiver) = accepting(table, to, message.label) {
+        table.append(receiver, message);
         true
     } else {
         false
@@ -133,43 +139,50 @@ pub fn deliver(table: &mut table::Table, to: u32, label: u8, sender: u8, value: 
 
 // Sends register c under label b to the slot numbered in register a. Where the task's label does not flow to b it gets kind 4,
 // and nothing is sent. The message is delivered here and not by a call of `deliver`, which would save and load registers.
-fn send(table: &mut table::Table, slot: u8, a: u8, b: u8, c: u8)
-    requires { Ready slot (slots_in table.old) × WasDecoded (Send a b c) }
-    ensures { slots_in table.new ≡ executed (Send a b c) slot (slots_in table.old) }
+fn send(table: &mut Table, slot: SlotNumber, a: u8, b: u8, c: u8)
+    requires { Ready slot.number (slots_in table.old) × WasDecoded (Send a b c) }
+    ensures { slots_in table.new ≡ executed (Send a b c) slot.number (slots_in table.old) }
 {
-    if label::flows(table::label(table, slot as usize), b) {
-        let to = table::register(table, slot as usize, a as usize);
-        let value = table::register(table, slot as usize, c as usize);
+    if label::flows(table.label(slot), b) {
+        let to = table.register(slot, a as usize);
+        let value = table.register(slot, c as usize);
         advance(table, slot);
-        if accepts(table, to, b) {
-            table::append(table, to as usize, b, slot, value);
+        if let Some(receiver) = accepting(table, to, b) {
+            table.append(
+                receiver,
+                Message {
+                    label: b,
+                    sender: slot.number as u8,
+                    value,
+                },
+            );
         }
     } else {
-        table::set_kind(table, slot as usize, 4);
+        table.set_kind(slot, Kind::StoppedByLabel as u8);
     }
 }
 
 // Message i goes: its value into register a, then its sender into register b.
-fn take_message(table: &mut table::Table, slot: u8, i: usize, a: u8, b: u8)
-    requires { GoesOn slot (slots_in table.old) × (i < length (task_at (slots_in table.old) slot).mailbox) × (a < 8) × (b < 8) }
-    ensures { slots_in table.new ≡ change slot (receives a b i) (slots_in table.old) }
+fn take_message(table: &mut Table, slot: SlotNumber, i: usize, a: u8, b: u8)
+    requires { GoesOn slot.number (slots_in table.old) × (i < length (task_at (slots_in table.old) slot.number).mailbox) × (a < 8) × (b < 8) }
+    ensures { slots_in table.new ≡ change slot.number (receives a b i) (slots_in table.old) }
 {
-    let value = table::message_value(table, slot as usize, i);
-    let sender = table::message_sender(table, slot as usize, i);
-    table::remove(table, slot as usize, i);
-    table::set_register(table, slot as usize, a as usize, value);
+    let value = table.message_value(slot, i);
+    let sender = table.message_sender(slot, i);
+    table.remove(slot, i);
+    table.set_register(slot, a as usize, value);
     gets(table, slot, b, sender as u32);
 }
 
 // Takes the oldest receivable message: whether there was one. Its index tells that, so nothing is counted.
-fn take(table: &mut table::Table, slot: u8, a: u8, b: u8) -> bool
-    requires { Ready slot (slots_in table.old) × (a < 8) × (b < 8) }
-    ensures { (slots_in table.new ≡ executed (Take a b) slot (slots_in table.old))
-        × (result ≡ nat_lt 0 (found flows (task_at (slots_in table.old) slot)).receivable) }
+fn take(table: &mut Table, slot: SlotNumber, a: u8, b: u8) -> bool
+    requires { Ready slot.number (slots_in table.old) × (a < 8) × (b < 8) }
+    ensures { (slots_in table.new ≡ executed (Take a b) slot.number (slots_in table.old))
+        × (result ≡ nat_lt 0 (found flows (task_at (slots_in table.old) slot.number)).receivable) }
 {
-    let own = table::label(table, slot as usize);
-    let i = search::find(table, slot as usize, own).oldest;
-    if i < table::mailbox_length(table, slot as usize) {
+    let own = table.label(slot);
+    let i = search::find(table, slot, own).oldest;
+    if i < table.mailbox_length(slot) {
         take_message(table, slot, i, a, b);
         true
     } else {
@@ -178,23 +191,23 @@ fn take(table: &mut table::Table, slot: u8, a: u8, b: u8) -> bool
 }
 
 // As take; with nothing receivable the place becomes c.
-fn poll(table: &mut table::Table, slot: u8, a: u8, b: u8, c: u8)
-    requires { Ready slot (slots_in table.old) × WasDecoded (Poll a b c) }
-    ensures { slots_in table.new ≡ executed (Poll a b c) slot (slots_in table.old) }
+fn poll(table: &mut Table, slot: SlotNumber, a: u8, b: u8, c: u8)
+    requires { Ready slot.number (slots_in table.old) × WasDecoded (Poll a b c) }
+    ensures { slots_in table.new ≡ executed (Poll a b c) slot.number (slots_in table.old) }
 {
     if take(table, slot, a, b) {
         return;
     }
-    table::set_pc(table, slot as usize, c as u32);
+    table.set_pc(slot, c as u32);
 }
 
 // Register a gets how many messages are receivable.
-fn count(table: &mut table::Table, slot: u8, a: u8)
-    requires { Ready slot (slots_in table.old) × WasDecoded (Count a) }
-    ensures { slots_in table.new ≡ executed (Count a) slot (slots_in table.old) }
+fn count(table: &mut Table, slot: SlotNumber, a: u8)
+    requires { Ready slot.number (slots_in table.old) × WasDecoded (Count a) }
+    ensures { slots_in table.new ≡ executed (Count a) slot.number (slots_in table.old) }
 {
-    let own = table::label(table, slot as usize);
-    let n = search::find(table, slot as usize, own).receivable;
+    let own = table.label(slot);
+    let n = search::find(table, slot, own).receivable;
     gets(table, slot, a, n as u32);
 }
 
@@ -202,54 +215,65 @@ fn count(table: &mut table::Table, slot: u8, a: u8)
 
 // The new task of a sandbox in slot `child`, with the parent's label and clearance, and the parent's slot in register 0.
 fn spawn(
-    table: &mut table::Table,
-    child: usize,
-    parent: u8,
+    table: &mut Table,
+    child: SlotNumber,
+    parent: SlotNumber,
     label: u8,
     clearance: u8,
     pc: u8,
     size: u8,
 )
-    requires { (child < 16) × (1 ≤ size) }
-    ensures { slots_in table.new ≡ slice_set (slots_in table.old) child (used (child_of parent label clearance pc size)) }
+    requires { 1 ≤ size }
+    ensures { slots_in table.new
+        ≡ slice_set (slots_in table.old) child.number (used (child_of parent.number label clearance pc size)) }
 {
-    table::put_task(table, child, 1, label, clearance, size - 1, pc as u32);
-    table::set_register(table, child, 0, parent as u32);
+    table.put_task(
+        child,
+        Kind::Live as u8,
+        label,
+        clearance,
+        size - 1,
+        pc as u32,
+    );
+    table.set_register(child, 0, parent.number as u32);
 }
 
 // A new task at place b with the last c of the task's spare slots, its slot into register a; too few spare slots stop the task.
-fn sandbox(table: &mut table::Table, slot: u8, a: u8, b: u8, c: u8)
-    requires { Ready slot (slots_in table.old) × WasDecoded (Sandbox a b c) }
-    ensures { slots_in table.new ≡ executed (Sandbox a b c) slot (slots_in table.old) }
+fn sandbox(table: &mut Table, slot: SlotNumber, a: u8, b: u8, c: u8)
+    requires { Ready slot.number (slots_in table.old) × WasDecoded (Sandbox a b c) }
+    ensures { slots_in table.new ≡ executed (Sandbox a b c) slot.number (slots_in table.old) }
 {
-    let spare = table::spare(table, slot as usize);
+    let spare = table.spare(slot);
     if c <= spare {
-        let own = table::label(table, slot as usize);
-        let clearance = table::clearance(table, slot as usize);
+        let own = table.label(slot);
+        let clearance = table.clearance(slot);
         let left = spare - c;
-        let child = (slot as u32) + (left as u32) + 1;
-        table::set_spare(table, slot as usize, left);
-        gets(table, slot, a, child);
-        spawn(table, child as usize, slot, own, clearance, b, c);
+        let child = SlotNumber {
+            number: slot.number + (left as usize) + 1,
+        };
+        table.set_spare(slot, left);
+        gets(table, slot, a, child.number as u32);
+        spawn(table, child, slot, own, clearance, b, c);
     } else {
-        table::set_kind(table, slot as usize, 5);
+        table.set_kind(slot, Kind::WithoutSpare as u8);
     }
 }
 
 // ---- every instruction
 
 // Carries an instruction out.
-pub fn execute(table: &mut table::Table, slot: u8, i: Instruction)
-    requires { Ready slot (slots_in table.old) × WasDecoded i }
-    ensures { slots_in table.new ≡ executed i slot (slots_in table.old) }
+#[tactic(auto, using(crate::proofs::Effects::by_form))]
+pub fn execute(table: &mut Table, slot: SlotNumber, i: Instruction)
+    requires { Ready slot.number (slots_in table.old) × WasDecoded i }
+    ensures { slots_in table.new ≡ executed i slot.number (slots_in table.old) }
 {
     match i {
-        Instruction::End => table::set_kind(table, slot as usize, 2),
+        Instruction::End => table.set_kind(slot, Kind::Done as u8),
         Instruction::Set(a, b, c) => gets(table, slot, a, (b as u32) * 256 + (c as u32)),
         Instruction::Copy(a, b) => copy(table, slot, a, b),
         Instruction::Add(a, b, c) => add(table, slot, a, b, c),
         Instruction::Subtract(a, b, c) => subtract(table, slot, a, b, c),
-        Instruction::Go(a) => table::set_pc(table, slot as usize, a as u32),
+        Instruction::Go(a) => table.set_pc(slot, a as u32),
         Instruction::Zero(a, b) => zero(table, slot, a, b),
         Instruction::Raise(a) => raise(table, slot, a),
         Instruction::Send(a, b, c) => send(table, slot, a, b, c),

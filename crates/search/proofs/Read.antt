@@ -17,23 +17,24 @@ use Rattle.planes.proofs.Sets.{set_of_bits, first_set, first_take}
 use Rattle.machine.specs.declared.Message.{Message}
 use Rattle.machine.specs.Effect.{find}
 use Rattle.machine.proofs.Search.{find_most}
+use Rattle.table.specs.declared.Table.{Table}
 use Rattle.table.specs.Table.{mailbox_room, window, message_in, slots_in}
 use Rattle.table.specs.Change.{task_at, Used}
 use Rattle.table.proofs.Slots.{mailbox_is, mailbox_read, mailbox_most}
 
-module _ (t : List ℕ) (s : ℕ) (here : Used s (slots_in t)) where
+module _ (t : Table) (s : ℕ) (here : Used s (slots_in t)) where
   abbrev w : List ℕ
-  w = window t s
+  w = window t.words s
 
   abbrev mailbox : List Message
   mailbox = (task_at (slots_in t) s).mailbox
 
   pub receivable_most : (l : ℕ) → (find flows l mailbox).receivable ≤ mailbox_room
-  receivable_most l = omega (arith, find_most flows l mailbox, mailbox_most t s here)
+  receivable_most l = omega (arith, find_most flows l mailbox, mailbox_most t.words s here)
 
   module _ (p : Message → Bool) (x n : ℕ) (right : Bits (λ i. cond (p (message_in w i)) 1 0) x) (count : n ≡ length mailbox) (many : n ≤ 64) where
     first_n : tabulate n (message_in w) ≡ mailbox
-    first_n = ap (λ (k : ℕ). tabulate k (message_in w)) (count ∙ sym (mailbox_read t s here)) ∙ sym (mailbox_is t s here)
+    first_n = ap (λ (k : ℕ). tabulate k (message_in w)) (count ∙ sym (mailbox_read t.words s here)) ∙ sym (mailbox_is t.words s here)
 
     -- of the 64, the first n
     pub set_read : bit_and x (2 ^ n - 1) ≡ set_of p mailbox

@@ -1,3 +1,4 @@
 -- The definitions of the crate `search`, a file each.
 pub mod Look
+pub mod Planewise
 pub mod Claims

@@ -1,12 +1,10 @@
 -- Laws of turns over the table: what a live task does with its turn, one turn, and one turn more.
 use Prim.Native.Nat.{ℕ, ◌+◌, ◌*◌, ◌%◌, ◌≤◌, ◌<◌}
-use mathlib.Core.Logic.{◌≢◌}
 use mathlib.Core.Path.{◌≡◌, refl, sym, ap, subst, ◌∙◌}
 use mathlib.Core.Bool.{true, false, cond}
 use mathlib.Core.List.{List}
 use native.Mathlib.Omega.{arith}
 use borrow.Author.Tests.{eq-eqb, ne_eqb}
-use lib.Dec.{eqb}
 use lib.ListN.{length, get_or, set}
 use Rattle.std.specs.Prelude.{Some}
 use Rattle.label.specs.Label.{flows, join}
@@ -23,20 +21,12 @@ use Rattle.machine.specs.Inner.{Within}
 use Rattle.machine.proofs.Rules.{TaskFacts, size_facts, slot_facts}
 use Rattle.machine.proofs.Machine.{turns_valid, turns_none, turns_more, turns_add, busy_none, busy_more, busy_add}
 use Rattle.machine.proofs.Bounds.{turns_within, turns_idle}
-use Rattle.table.specs.Change.{task_or, task_at, Used, slot_with_kind}
+use Rattle.table.specs.Change.{task_or, task_at, slot_with_kind}
 use Rattle.turn.specs.Answer.{running_at}
 use Rattle.effect.specs.Effects.{executed, Ready, WasDecoded}
-use Rattle.effect.proofs.Effects.{kind_here, valid_room}
+use Rattle.effect.proofs.Effects.{kind_here, live_here, valid_room}
 
 -- ---- what a live task does with its turn
-
--- a live task is there
-pub live_here : (ss : List Slot) (s : ℕ) → has_live_task (slot_at ss s) ≡ true → Used s ss
-live_here ss s = there (slot_at ss s)
-  where
-    there : (x : Slot) → has_live_task x ≡ true → x ≡ used (task_or x)
-    there unused e = cc
-    there (used t) e = refl
 
 -- what was decoded at a place of the program
 pub was_decoded : (program : List ℕ) (pc : ℕ) (i : Instruction) → instruction_at program pc ≡ Some i → WasDecoded i
@@ -76,23 +66,6 @@ module _ (program : List ℕ) (s : ℕ) (ss : List Slot) (live : has_live_task (
   pub act_executes : pc < count program → (i : Instruction) → instruction_at program pc ≡ Some i → executed i s ss ≡ applied s (outcome flows join program s (task_at ss s)) ss
   unfolding outcome executed
   act_executes before i is = rw (ne_eqb (task_at ss s).pc (count program) (λ e. omega arith), ← place, is)
-
--- ---- live and idle slots
-
--- k: the kind that was read; a task is live where it is 1
-module _ (ss : List Slot) (s : ℕ) {k : ℕ} (kind : k ≡ (task_at ss s).kind) where
-  live_kind : has_live_task (slot_at ss s) ≡ eqb k 1
-  live_kind = by_kind (slot_at ss s) ∙ ap (λ (x : ℕ). eqb x 1) (sym kind)
-    where
-      by_kind : (x : Slot) → has_live_task x ≡ eqb (task_or x).kind 1
-      by_kind unused = refl
-      by_kind (used t) = refl
-
-  pub kind_live : k ≡ 1 → has_live_task (slot_at ss s) ≡ true
-  kind_live e = live_kind ∙ eq-eqb k 1 e
-
-  pub kind_idle : k ≢ 1 → has_live_task (slot_at ss s) ≡ false
-  kind_idle e = live_kind ∙ ne_eqb k 1 e
 
 module _ (program : List ℕ) (s : ℕ) (ss : List Slot) where
   turn_live : has_live_task (slot_at ss s) ≡ true

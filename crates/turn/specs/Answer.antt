@@ -2,6 +2,7 @@
 use Rattle.std.specs.Prelude.{ℕ, List}
 use Rattle.machine.specs.State.{Slot, State}
 use Rattle.machine.specs.Machine.{turns, busy}
+use Rattle.table.specs.declared.Table.{Table}
 use Rattle.table.specs.Table.{slots_in}
 use Rattle.turn.specs.declared.RunAnswer.{RunAnswer}
 
@@ -10,7 +11,7 @@ use Rattle.turn.specs.declared.RunAnswer.{RunAnswer}
 abbrev pub running_at : List ℕ → ℕ → List Slot → State
 running_at program turn_slot ss = record { version = 2; program = program; turn_slot = turn_slot; slots = ss }
 
-abbrev pub running : List ℕ → ℕ → List ℕ → State
+abbrev pub running : List ℕ → ℕ → Table → State
 running program turn_slot t = running_at program turn_slot (slots_in t)
 
 -- of n turns of a state: the slot whose turn is next, and the turns that met a live task

@@ -13,76 +13,61 @@ ghost use Rattle.table.specs.Table.{slots_in};
 ghost use Rattle.table.specs.Change.{task_at};
 ghost use Rattle.turn.specs.Answer.{running, run_told};
 
+use machine::{Kind, SlotNumber};
+use table::Table;
+
 // ---- the turn of a slot
 
 // What a live task does with its turn: with place N it gets kind 3, else it carries out one instruction. No place is above N.
-fn act(table: &mut table::Table, program: &[u8], slot: u8)
-    requires { Valid (running program.now slot table.old) × (has_live_task (slot_at (slots_in table.old) slot) ≡ true) }
+fn act(table: &mut Table, program: &[u8], slot: SlotNumber)
+    requires { Valid (running program.now slot.number table.old) × (has_live_task (slot_at (slots_in table.old) slot.number) ≡ true) }
     ensures { slots_in table.new
-        ≡ applied slot (outcome flows join program.now slot (task_at (slots_in table.old) slot)) (slots_in table.old) }
+        ≡ applied slot.number (outcome flows join program.now slot.number (task_at (slots_in table.old) slot.number)) (slots_in table.old) }
 {
-    let pc = table::pc(table, slot as usize) as usize;
+    let pc = table.pc(slot) as usize;
     if pc < program.len() / 4 {
         effect::execute(table, slot, instruction::legal_at(program, pc));
     } else {
-        table::set_kind(table, slot as usize, 3);
+        table.set_kind(slot, Kind::PastProgram as u8);
     }
 }
 
 // ---- the slots that can ever be used
 
 // The lowest used slot, and 16 where there is none.
-fn bottom(table: &table::Table) -> u8
+fn bottom(table: &Table) -> u8
     ensures { result ≡ bottom_of (slots_in table.now) }
 {
-    let mut slot: u8 = 0;
-    while slot < 16 {
-        if table::kind(table, slot as usize) > 0 {
-            return slot;
+    for number in 0..16 {
+        if table.is_used(SlotNumber { number }) {
+            return number as u8;
         }
-        slot += 1;
     }
-    slot
+    16
 }
 
-// The slot behind slot `slot` and its spare where it is used, else `before`.
-fn top_behind(table: &table::Table, slot: u8, before: u8) -> u8
-    requires { (slot < 16) × Within 0 16 (slots_in table.now) }
-    ensures { result ≡ top_behind slot before (slot_at (slots_in table.now) slot) }
+// The slot behind a slot and its spare where it is used, else `before`.
+fn top_behind(table: &Table, slot: SlotNumber, before: u8) -> u8
+    requires { Within 0 16 (slots_in table.now) }
+    ensures { result ≡ top_behind slot.number before (slot_at (slots_in table.now) slot.number) }
 {
-    if table::kind(table, slot as usize) > 0 {
-        slot + table::spare(table, slot as usize) + 1
+    if table.is_used(slot) {
+        slot.number as u8 + table.spare(slot) + 1
     } else {
         before
     }
 }
 
 // The slot behind the last used one and its spare, and 0 where there is none.
-fn top(table: &table::Table) -> u8
+fn top(table: &Table) -> u8
     requires { Within 0 16 (slots_in table.now) }
     ensures { result ≡ top_of 16 (slots_in table.now) }
 {
-    let mut top: u8 = 0;
-    let mut slot: u8 = 0;
-    while slot < 16 {
-        top = top_behind(table, slot, top);
-        slot += 1;
+    let mut top = 0;
+    for number in 0..16 {
+        top = top_behind(table, SlotNumber { number }, top);
     }
     top
-}
-
-// The higher of two.
-fn max(a: u8, b: u8) -> u8
-    ensures { result ≡ max a b }
-{
-    if a < b { b } else { a }
-}
-
-// The lower of two.
-fn min(a: u8, b: u8) -> u8
-    ensures { result ≡ min a b }
-{
-    if a < b { a } else { b }
 }
 
 // ---- rounds
@@ -101,26 +86,24 @@ fn round_end(slot: u8, left: u64) -> u8
 
 // The turns of the slots from `first` up to `end`, each followed by the next: how many met a live task. The slots below `bottom` and
 // from `top` on are unused and stay so, and are passed over. It counts the slots without a live task, so that a live task's turn counts nothing.
-fn round(table: &mut table::Table, program: &[u8], first: u8, end: u8, bottom: u8, top: u8) -> u64
+fn round(table: &mut Table, program: &[u8], first: u8, end: u8, bottom: u8, top: u8) -> u64
     requires { Valid (running program.now first table.old) × (first ≤ end) × (end ≤ 16) × Within bottom top (slots_in table.old) }
     ensures { (result ≡ busy (end - first) (running program.now first table.old))
         × (running program.now (end % 16) table.new
         ≡ turns (end - first) (running program.now first table.old)) }
 {
-    let stop = min(end, top) as usize;
-    let from = max(first, bottom) as usize;
+    let from = first.max(bottom) as usize;
+    let stop = from.max(end.min(top) as usize);
     let mut idle: usize = 0;
-    let mut slot = from;
-    while slot < stop {
-        if table::kind(table, slot) == 1 {
-            act(table, program, slot as u8);
-            slot += 1;
+    for number in from..stop {
+        let slot = SlotNumber { number };
+        if table.is_live(slot) {
+            act(table, program, slot);
         } else {
             idle += 1;
-            slot += 1;
         }
     }
-    (slot - from - idle) as u64
+    (stop - from - idle) as u64
 }
 
 // The slot behind a round: slot 15 is followed by slot 0.
@@ -132,14 +115,14 @@ fn next_slot(end: u8) -> u8
 }
 
 // What a run of turns tells: the slot whose turn is next, and how many of the turns met a live task.
-#[derive(Drop)]
+#[derive(Clone, Copy)]
 pub struct RunAnswer {
     pub turn: u8,
     pub busy: u64,
 }
 
 // n turns of the tasks in the table, the first that of slot `first`.
-pub fn turns(table: &mut table::Table, program: &[u8], first: u8, n: u64) -> RunAnswer
+pub fn turns(table: &mut Table, program: &[u8], first: u8, n: u64) -> RunAnswer
     requires { Valid (running program.now first table.old) }
     ensures { (result ≡ run_told n (running program.now first table.old))
         × (slots_in table.new ≡ (turns n (running program.now first table.old)).slots) }
@@ -155,8 +138,5 @@ pub fn turns(table: &mut table::Table, program: &[u8], first: u8, n: u64) -> Run
         left -= (end - slot) as u64;
         slot = next_slot(end);
     }
-    RunAnswer {
-        turn: slot,
-        busy: busy,
-    }
+    RunAnswer { turn: slot, busy }
 }

@@ -1,4 +1,5 @@
 -- `effect::add` meets its contract.
+use Rattle.std.proofs.Common.{refl}
 use Rattle.effect.proofs.Effects.{add_done, sound}
 use Rattle.effect.proofs.add.Goals as goal
 
@@ -7,7 +8,7 @@ returns c =
     let x = c.register-x in
     let y = c.register-y in
     rw c.gets.ensures
-    (add_done c.requires.0 _ _ _ x.ensures y.ensures c.wrapping_add_u32.ensures.value)
+    (add_done c.requires.0 _ _ _ x.ensures y.ensures refl)
 
 pub register-x-requires : goal.register-x-requires
 register-x-requires c = (c.requires.0.goes.here, (sound c.requires.1).1)

@@ -1,17 +1,6 @@
 -- `effect::advance` meets its contract: the place is read, and written again with 1 more.
-use Rattle.std.proofs.Common.{arith}
-use Rattle.table.proofs.Slots.{used_slot}
 use Rattle.effect.proofs.Effects.{place_up}
 use Rattle.effect.proofs.advance.Goals as goal
 
 pub returns : goal.returns
 returns c = rw (c.set_pc.ensures, c.pc-pc.ensures, place_up)
-
-pub pc-pc-requires : goal.pc-pc-requires
-pc-pc-requires c = c.requires.here
-
-pub overflow_add-pc : goal.overflow_add-pc
-overflow_add-pc c = omega (arith, c.pc-pc.ensures, c.requires.place)
-
-pub set_pc-requires : goal.set_pc-requires
-set_pc-requires c = used_slot _ _ c.requires.here

@@ -6,18 +6,12 @@ use Rattle.effect.proofs.count.Goals as goal
 
 pub overflow_cast-n : goal.overflow_cast-n
 overflow_cast-n c =
-    rw c.find-n.ensures (omega (arith, receivable_most c.args.table.now c.args.slot c.requires.0.goes.here c.label-own.result))
+    rw c.find-n.ensures (omega (arith, receivable_most c.args.table.now c.args.slot.number c.requires.0.goes.here c.label-own.result))
 
 pub returns : goal.returns
 returns c =
     rw c.gets.ensures
     (count_done c.requires.0 c.args.a c.label-own.ensures c.find-n.ensures)
-
-pub label-own-requires : goal.label-own-requires
-label-own-requires c = c.requires.0.goes.here
-
-pub find-n-requires : goal.find-n-requires
-find-n-requires c = c.requires.0.goes.here
 
 pub gets-requires : goal.gets-requires
 gets-requires c = (c.requires.0.goes, (sound c.requires.1).0)

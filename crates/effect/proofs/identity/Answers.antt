@@ -2,7 +2,6 @@
 use Rattle.std.proofs.Common.{refl}
 use Rattle.machine.specs.State.{with_register}
 use Rattle.table.proofs.Change.{change_change}
-use Rattle.table.proofs.Slots.{used_slot}
 use Rattle.effect.proofs.Effects.{identity_done, goes_on, sound}
 use Rattle.effect.proofs.identity.Goals as goal
 
@@ -14,8 +13,5 @@ returns c =
     rw (c.gets.ensures, c.set_register.ensures, change_change)
     (identity_done c.requires.0 _ _ c.label-own.ensures)
 
-pub label-own-requires : goal.label-own-requires
-label-own-requires c = c.requires.0.goes.here
-
 pub set_register-requires : goal.set_register-requires
-set_register-requires c = (used_slot _ _ c.requires.0.goes.here, (sound c.requires.1).0)
+set_register-requires c = (sound c.requires.1).0

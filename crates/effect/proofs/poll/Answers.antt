@@ -1,6 +1,5 @@
 -- `effect::poll` meets its contract: as take, and the place where nothing is receivable.
 use Rattle.std.proofs.Common.{sym, ◌∙◌}
-use Rattle.table.proofs.Slots.{used_slot}
 use Rattle.effect.proofs.Effects.{poll_some, poll_none, sound}
 use Rattle.effect.proofs.poll.Goals as goal
 
@@ -17,6 +16,3 @@ returns c =
 
 pub take-requires : goal.take-requires
 take-requires c = let s = sound c.requires.1 in (c.requires.0, s.0, s.1)
-
-pub set_pc-requires : goal.set_pc-requires
-set_pc-requires c = used_slot _ _ c.requires.0.goes.here

@@ -1,13 +1,7 @@
 -- `effect::raise` meets its contract: the label, then the place; or kind 6.
-use Rattle.std.proofs.Common.{refl}
-use Rattle.machine.specs.State.{with_label}
 use Rattle.table.proofs.Change.{change_change}
-use Rattle.table.proofs.Slots.{used_slot}
-use Rattle.effect.proofs.Effects.{raise_done, raise_stopped, goes_on}
+use Rattle.effect.proofs.Effects.{raise_done, raise_stopped}
 use Rattle.effect.proofs.raise.Goals as goal
-
-pub advance-requires : goal.advance-requires
-advance-requires c = rw c.set_label.ensures (goes_on (with_label _) (λ t. refl) c.requires.goes)
 
 pub returns-then-is_subset : goal.returns-then-is_subset
 returns-then-is_subset c =
@@ -18,15 +12,3 @@ pub returns-else-is_subset : goal.returns-else-is_subset
 returns-else-is_subset c =
     rw c.set_kind.ensures
     (raise_stopped c.requires _ c.label.ensures c.join-raised.ensures c.clearance.ensures c.is_subset.ensures c.if-is_subset.false)
-
-pub label-requires : goal.label-requires
-label-requires c = c.requires.goes.here
-
-pub clearance-requires : goal.clearance-requires
-clearance-requires c = c.requires.goes.here
-
-pub set_label-requires : goal.set_label-requires
-set_label-requires c = used_slot _ _ c.requires.goes.here
-
-pub set_kind-requires : goal.set_kind-requires
-set_kind-requires c = c.requires.goes.here

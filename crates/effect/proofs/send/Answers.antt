@@ -2,7 +2,6 @@
 use Rattle.std.proofs.Common.{◌≡◌, ℕ, List, sym, refl, ◌∙◌, true}
 use Rattle.label.specs.Label.{flows}
 use Rattle.instruction.specs.declared.Instruction.TheVariants.{Send}
-use Rattle.machine.specs.declared.Message.{Message}
 use Rattle.machine.specs.State.{Slot, next, register}
 use Rattle.machine.specs.Effect.{deliver}
 use Rattle.machine.specs.Turn.{perform}
@@ -31,35 +30,29 @@ append-requires c =
     let a = c.args in
     let to = c.register-to.result in
     let slots = slots_in c.advance.new.table in
-    let space = room a.slot a.a a.b a.c (slots_in a.table.now) slots c.requires.0 c.requires.1 c.advance.ensures to in
-    let free = accepts_room slots to a.b (sym c.accepts.ensures ∙ c.if-accepts.true) space in
-    (free.0, free.1, space.0)
+    let here = c.in-Some.ensures in
+    let space = room a.slot.number a.a a.b a.c (slots_in a.table.now) slots c.requires.0 c.requires.1 c.advance.ensures to in
+    let free = accepts_room slots to a.b (sym here.told) space in
+    rw here.numbered (free.0, free.1, space.0)
 
-pub returns-then-accepts : goal.returns-then-accepts
-returns-then-accepts c =
+pub returns-in-Some : goal.returns-in-Some
+returns-in-Some c =
     let a = c.args in
-    let to = c.register-to.result in
-    let slots = slots_in c.advance.new.table in
-    let m : Message = record { label = a.b; sender = a.slot; value = c.register-value.result } in
-    (deliver_joins slots to m (sym c.accepts.ensures ∙ c.if-accepts.true) c.append.ensures).0
-    ∙ sent a.slot a.a a.b a.c c.label.result to c.register-value.result (slots_in a.table.now) slots c.requires.0 c.advance.ensures c.label.ensures
-    (sym c.flows.ensures ∙ c.if-flows.true) c.register-to.ensures c.register-value.ensures
+    let here = c.in-Some.ensures in
+    (deliver_joins (slots_in c.advance.new.table) c.register-to.result _ (sym here.told) (rw here.numbered at c.append.ensures)).0
+    ∙ sent a.slot.number a.a a.b a.c c.label.result c.register-to.result c.register-value.result (slots_in a.table.now) (slots_in c.advance.new.table)
+    c.requires.0 c.advance.ensures c.label.ensures (sym c.flows.ensures ∙ c.if-flows.true) c.register-to.ensures c.register-value.ensures
 
-pub returns-else-accepts : goal.returns-else-accepts
-returns-else-accepts c =
+pub returns-in_default : goal.returns-in_default
+returns-in_default c =
     let a = c.args in
-    let to = c.register-to.result in
-    let slots = slots_in c.advance.new.table in
-    let m : Message = record { label = a.b; sender = a.slot; value = c.register-value.result } in
-    (deliver_drops slots to m (sym c.accepts.ensures ∙ c.if-accepts.false)).0
-    ∙ sent a.slot a.a a.b a.c c.label.result to c.register-value.result (slots_in a.table.now) slots c.requires.0 c.advance.ensures c.label.ensures
-    (sym c.flows.ensures ∙ c.if-flows.true) c.register-to.ensures c.register-value.ensures
+    (deliver_drops (slots_in c.advance.new.table) c.register-to.result (record { label = a.b; sender = a.slot.number; value = c.register-value.result })
+    (sym c.in_default.ensures.told)).0
+    ∙ sent a.slot.number a.a a.b a.c c.label.result c.register-to.result c.register-value.result (slots_in a.table.now) (slots_in c.advance.new.table)
+    c.requires.0 c.advance.ensures c.label.ensures (sym c.flows.ensures ∙ c.if-flows.true) c.register-to.ensures c.register-value.ensures
 
 pub returns-else-flows : goal.returns-else-flows
 returns-else-flows c = rw c.set_kind.ensures (send_stopped c.requires.0 _ _ _ c.label.ensures (sym c.flows.ensures ∙ c.if-flows.false))
-
-pub label-requires : goal.label-requires
-label-requires c = c.requires.0.goes.here
 
 pub register-to-requires : goal.register-to-requires
 register-to-requires c = (c.requires.0.goes.here, (sound c.requires.1).0)
@@ -67,13 +60,7 @@ register-to-requires c = (c.requires.0.goes.here, (sound c.requires.1).0)
 pub register-value-requires : goal.register-value-requires
 register-value-requires c = (c.requires.0.goes.here, (sound c.requires.1).2)
 
-pub advance-requires : goal.advance-requires
-advance-requires c = c.requires.0.goes
-
-pub accepts-requires : goal.accepts-requires
-accepts-requires c =
+pub accepting-requires : goal.accepting-requires
+accepting-requires c =
     let a = c.args in
-    (room a.slot a.a a.b a.c (slots_in a.table.now) (slots_in c.advance.new.table) c.requires.0 c.requires.1 c.advance.ensures c.register-to.result).0
-
-pub set_kind-requires : goal.set_kind-requires
-set_kind-requires c = c.requires.0.goes.here
+    (room a.slot.number a.a a.b a.c (slots_in a.table.now) (slots_in c.advance.new.table) c.requires.0 c.requires.1 c.advance.ensures c.register-to.result).0

@@ -1,5 +1,4 @@
 -- `effect::subtract` meets its contract.
-use Rattle.std.proofs.Common.{arith}
 use Rattle.effect.proofs.Effects.{subtract_done, sound}
 use Rattle.effect.proofs.subtract.Goals as goal
 
@@ -7,10 +6,7 @@ pub returns : goal.returns
 returns c =
     let x = c.register-x in
     let y = c.register-y in
-    let z = c.wrapping_sub_u32 in
-    rw c.gets.ensures
-    (subtract_done c.requires.0 _ _ _
-    x.ensures y.ensures (omega arith) (omega arith) z.ensures.value)
+    rw c.gets.ensures (subtract_done c.requires.0 _ _ _ x.ensures y.ensures y.type_inv)
 
 pub register-x-requires : goal.register-x-requires
 register-x-requires c = (c.requires.0.goes.here, (sound c.requires.1).1)

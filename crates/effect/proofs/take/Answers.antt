@@ -3,9 +3,6 @@ use Rattle.std.proofs.Common.{arith}
 use Rattle.effect.proofs.Effects.{take_some, take_none}
 use Rattle.effect.proofs.take.Goals as goal
 
-pub take_message-requires : goal.take_message-requires
-take_message-requires c = (c.requires.0.goes, rw (← c.mailbox_length.ensures.0) (omega arith), c.requires.1, c.requires.2)
-
 pub returns-then-i-mailbox_length : goal.returns-then-i-mailbox_length
 returns-then-i-mailbox_length c =
     let own = c.label-own in
@@ -18,12 +15,3 @@ returns-else-i-mailbox_length c =
     let own = c.label-own in
     let f = c.find-i in
     take_none c.requires.0 _ _ own.ensures f.ensures (rw (← c.mailbox_length.ensures.0) (omega arith))
-
-pub label-own-requires : goal.label-own-requires
-label-own-requires c = c.requires.0.goes.here
-
-pub find-i-requires : goal.find-i-requires
-find-i-requires c = c.requires.0.goes.here
-
-pub mailbox_length-requires : goal.mailbox_length-requires
-mailbox_length-requires c = c.requires.0.goes.here

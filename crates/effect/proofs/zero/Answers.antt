@@ -1,5 +1,4 @@
 -- `effect::zero` meets its contract.
-use Rattle.table.proofs.Slots.{used_slot}
 use Rattle.effect.proofs.Effects.{zero_jumps, zero_goes_on, sound}
 use Rattle.effect.proofs.zero.Goals as goal
 
@@ -11,9 +10,3 @@ returns-else-register-eq0 c = rw c.advance.ensures (zero_goes_on c.requires.0 _ 
 
 pub register-requires : goal.register-requires
 register-requires c = (c.requires.0.goes.here, (sound c.requires.1).0)
-
-pub set_pc-requires : goal.set_pc-requires
-set_pc-requires c = used_slot _ _ c.requires.0.goes.here
-
-pub advance-requires : goal.advance-requires
-advance-requires c = c.requires.0.goes

@@ -2,10 +2,9 @@
 use Prim.Native.Nat.{ℕ, ◌-◌, ◌^◌, ◌≤◌, min}
 use mathlib.Core.Path.{◌≡◌, sym, ap, ◌∙◌}
 use mathlib.Core.Bool.{Bool, cond}
-use mathlib.Core.List.{List}
 use native.Mathlib.Omega.{arith}
 use lib.Bits.{bit_and}
-use lib.Count.{ones, count_trailing_zeros, trailing_le}
+use lib.Count.{ones, count_trailing_zeros}
 use lib.ListN.{length}
 use Rattle.wire.specs.Lists.{keep, first_index}
 use Rattle.wire.proofs.Lists.{length_nil}
@@ -14,15 +13,14 @@ use Rattle.planes.specs.Planes.{Bits, set_of}
 use Rattle.planes.proofs.Sets.{ones_set}
 use Rattle.machine.specs.declared.Message.{Message}
 use Rattle.machine.specs.Effect.{receivable, find}
+use Rattle.table.specs.declared.Table.{Table}
 use Rattle.table.specs.Table.{window, message_in, slots_in}
 use Rattle.table.specs.Change.{task_at, Used}
-use Rattle.table.proofs.Slots.{used_slot}
-use Rattle.search.proofs.Read.{receivable_most, set_read, first_read}
+use Rattle.search.proofs.Read.{set_read, first_read}
 use Rattle.search.proofs.find.Goals as goal
-use Rattle.search.proofs.find.Goals.{then-first-n, else-first-n}
 
 -- those that are there, of the 64 that were looked at
-there : (t : List ℕ) (s label x n below : ℕ) → Used s (slots_in t) → Bits (λ i. cond (receivable flows label (message_in (window t s) i)) 1 0) x
+there : (t : Table) (s label x n below : ℕ) → Used s (slots_in t) → Bits (λ i. cond (receivable flows label (message_in (window t.words s) i)) 1 0) x
     → n ≡ length (task_at (slots_in t) s).mailbox → n ≤ 64 → below ≡ 2 ^ n - 1
     → ones (bit_and x below) ≡ length (keep (receivable flows label) (task_at (slots_in t) s).mailbox)
 there t s label x n below here right count many mask =
@@ -31,32 +29,12 @@ there t s label x n below here right count many mask =
     let set : bit_and x below ≡ set_of p ms = rw mask (set_read t s here p x n right count many) in
     ap ones set ∙ ones_set p ms
 
-pub mailbox_length-n-requires : goal.mailbox_length-n-requires
-mailbox_length-n-requires c = c.requires
-
 pub returns-then-n-eq0 : goal.returns-then-n-eq0
 returns-then-n-eq0 c =
     let a = c.args in
-    let ms = (task_at (slots_in a.t.now) a.s).mailbox in
+    let ms = (task_at (slots_in a.table.now) a.slot.number).mailbox in
     let empty : length ms ≡ 0 = omega (arith, c.mailbox_length-n.ensures.0) in
     ap (find flows a.label) (sym (length_nil ms empty))
-
-pub flowing-passed-requires : goal.flowing-passed-requires
-flowing-passed-requires c = omega (arith, used_slot _ _ c.requires)
-
-pub overflow_cast-first : goal.overflow_cast-first
-overflow_cast-first c = omega (arith, trailing_le 64 c.flowing-passed.result)
-
-pub below-requires : goal.below-requires
-below-requires c = c.mailbox_length-n.ensures.1
-
-pub overflow_cast-result : goal.overflow_cast-result
-unfolding message_in
-overflow_cast-result c =
-    let a = c.args in
-    let n = c.mailbox_length-n in
-    let many = there a.t.now a.s a.label c.flowing-passed.result n.result c.below.result c.requires c.flowing-passed.ensures n.ensures.0 n.ensures.1 c.below.ensures in
-    record { fits = omega (arith, many, receivable_most a.t.now a.s c.requires a.label) }
 
 pub returns : goal.returns
 unfolding message_in
@@ -64,12 +42,7 @@ returns c =
     let a = c.args in
     let n = c.mailbox_length-n in
     let p : Message → Bool = receivable flows a.label in
-    let first : first_index p (task_at (slots_in a.t.now) a.s).mailbox ≡ min (count_trailing_zeros 64 c.flowing-passed.result) n.result
-    = first_read a.t.now a.s c.requires p c.flowing-passed.result n.result c.flowing-passed.ensures n.ensures.0 n.ensures.1 c.flowing-passed.type_inv in
-    let many = there a.t.now a.s a.label c.flowing-passed.result n.result c.below.result c.requires c.flowing-passed.ensures n.ensures.0 n.ensures.1 c.below.ensures in
-    let oldest : c.if-first-n.result ≡ first_index p (task_at (slots_in a.t.now) a.s).mailbox =
-    elim c.if-first-n.branch [
-      | then-first-n w ↦ omega (arith, first, w.if-first-n.true, w.result-is)
-      | else-first-n w ↦ omega (arith, first, w.if-first-n.false, w.result-is)
-    ] in
-    rw (oldest, many)
+    let first : first_index p (task_at (slots_in a.table.now) a.slot.number).mailbox ≡ min (count_trailing_zeros 64 c.flowing-passed.result) n.result
+    = first_read a.table.now a.slot.number c.requires p c.flowing-passed.result n.result c.flowing-passed.ensures n.ensures.0 n.ensures.1 c.flowing-passed.type_inv in
+    let many = there a.table.now a.slot.number a.label c.flowing-passed.result n.result c.below.result c.requires c.flowing-passed.ensures n.ensures.0 n.ensures.1 c.below.ensures in
+    rw (c.min.ensures, first, many)

@@ -1,6 +1,5 @@
 use mathlib.Core.Path.{sym}
 use native.Mathlib.Omega.{arith}
-use lib.Count.{trailing_le}
 use Rattle.table.specs.Table.{slots_in}
 use Rattle.table.specs.Change.{task_at}
 use Rattle.search.proofs.Counting.{look_few, going_first, going_next, going_none, going_some}
@@ -10,34 +9,22 @@ pub returns-then-n-lt-LIMIT_PER_LABEL : goal.returns-then-n-lt-LIMIT_PER_LABEL
 returns-then-n-lt-LIMIT_PER_LABEL c =
     let a = c.args in
     let n = c.mailbox_length-n in
-    rw n.ensures.0 (sym (look_few a.label (task_at (slots_in a.t.now) a.s).mailbox 4 (omega (arith, n.ensures.0))))
+    rw n.ensures.0 (sym (look_few a.label (task_at (slots_in a.table.now) a.slot.number).mailbox 4 (omega (arith, n.ensures.0))))
 
 pub loop-nth-init : goal.loop-nth-init
 loop-nth-init c =
     let n = c.mailbox_length-n in
     let a = c.args in
-    going_first a.label (task_at (slots_in a.t.now) a.s).mailbox n.result c.of_label-left.result n.ensures.0 c.of_label-left.ensures
+    going_first a.label (task_at (slots_in a.table.now) a.slot.number).mailbox n.result c.of_label-left.result n.ensures.0 c.of_label-left.ensures
 
 pub loop-nth-preserved : goal.loop-nth-preserved
-loop-nth-preserved c = let h = c.loop-nth in rw c.rest-left.ensures (going_next _ _ _ h.left h.nth (omega arith) h.invariant)
+loop-nth-preserved c = let h = c.loop-nth in rw c.rest-left.ensures (going_next _ _ _ h.left h._nth (omega arith) h.invariant)
 
 pub returns-then-left-eq0 : goal.returns-then-left-eq0
-returns-then-left-eq0 c = let h = c.loop-nth in going_none _ _ _ h.left h.nth (omega arith) h.invariant c.if-left-eq0.true
+returns-then-left-eq0 c = let h = c.loop-nth in going_none _ _ _ h.left h._nth (omega arith) h.invariant c.if-left-eq0.true
 
 pub returns-else-left-eq0 : goal.returns-else-left-eq0
 returns-else-left-eq0 c =
     let h = c.loop-nth in
     let n = c.mailbox_length-n in
-    going_some _ _ _ h.left h.nth (omega arith) h.invariant n.ensures.1 c.if-left-eq0.false
-
-pub mailbox_length-n-requires : goal.mailbox_length-n-requires
-mailbox_length-n-requires c = c.requires.0
-
-pub of_label-left-requires : goal.of_label-left-requires
-of_label-left-requires c = c.requires
-
-pub overflow_cast-result : goal.overflow_cast-result
-overflow_cast-result c = omega (arith, trailing_le 64 c.loop-nth.left)
-
-pub overflow_add-result : goal.overflow_add-result
-overflow_add-result c = omega (arith, trailing_le 64 c.loop-nth.left)
+    going_some _ _ _ h.left h._nth (omega arith) h.invariant n.ensures.1 c.if-left-eq0.false

@@ -1,8 +1,6 @@
 -- `search::of_label` meets its contract: of the 64, those that are there.
-use native.Mathlib.Omega.{arith}
 use lib.Dec.{eqb}
 use Rattle.table.specs.Table.{message_in}
-use Rattle.table.proofs.Slots.{used_slot}
 use Rattle.search.proofs.Read.{set_read}
 use Rattle.search.proofs.of_label.Goals as goal
 
@@ -12,13 +10,4 @@ returns c =
     let n = c.mailbox_length in
     let a = c.args in
     rw c.below.ensures
-    (set_read a.t.now a.s c.requires.0 (λ m. eqb m.label a.label) c.labelled.result n.result c.labelled.ensures n.ensures.0 n.ensures.1)
-
-pub labelled-requires : goal.labelled-requires
-labelled-requires c = omega (arith, used_slot _ _ c.requires.0)
-
-pub mailbox_length-requires : goal.mailbox_length-requires
-mailbox_length-requires c = c.requires.0
-
-pub below-requires : goal.below-requires
-below-requires c = c.mailbox_length.ensures.1
+    (set_read a.table.now a.slot.number c.requires.0 (λ m. eqb m.label a.label) c.labelled.result n.result c.labelled.ensures n.ensures.0 n.ensures.1)

@@ -2,7 +2,7 @@
 use mathlib.Core.Path.{◌∙◌}
 use native.Mathlib.Omega.{arith}
 use Rattle.table.specs.Table.{slots_in}
-use Rattle.turn.proofs.Steps.{live_here, was_decoded, act_ends, act_executes, valid_ready}
+use Rattle.turn.proofs.Steps.{was_decoded, act_ends, act_executes, valid_ready}
 use Rattle.turn.proofs.act.Goals as goal
 
 -- the place that was read is ahead of N
@@ -21,12 +21,3 @@ pub returns-else-pc-program : goal.returns-else-pc-program
 returns-else-pc-program c =
     let ss = slots_in c.args.table.now in
     c.set_kind.ensures ∙ act_ends _ _ ss c.requires.1 c.pc-pc.ensures c.requires.0 (omega arith)
-
-pub pc-pc-requires : goal.pc-pc-requires
-pc-pc-requires c = live_here (slots_in c.args.table.now) c.args.slot c.requires.1
-
-pub legal_at-requires : goal.legal_at-requires
-legal_at-requires c = (c.requires.0.legal, c.if-pc-program.true)
-
-pub set_kind-requires : goal.set_kind-requires
-set_kind-requires c = live_here (slots_in c.args.table.now) c.args.slot c.requires.1

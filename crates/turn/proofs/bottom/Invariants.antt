@@ -1,11 +1,8 @@
 -- `turn::bottom` meets its contract: no slot below the one at hand is used.
-use Prim.Native.Nat.{◌≤◌, ◌-◌}
+use Prim.Native.Nat.{◌≤◌}
 use Rattle.machine.specs.Inner.{bottom_of}
 use Rattle.table.specs.Table.{slots_in}
 use Rattle.turn.proofs.bottom.Given as goal
 
-abbrev pub invariant-loop-slot : goal.invariant-loop-slot
-invariant-loop-slot l = (l.slot ≤ 16) × (l.slot ≤ bottom_of (slots_in l.table))
-
-abbrev pub decreases-loop-slot : goal.decreases-loop-slot
-decreases-loop-slot l = 16 - l.slot
+abbrev pub invariant-loop-number : goal.invariant-loop-number
+invariant-loop-number l = l.number ≤ bottom_of (slots_in l.table)

@@ -6,10 +6,7 @@ use Rattle.turn.proofs.Steps.{Ran}
 use Rattle.turn.proofs.round.Given as goal
 
 -- no slot behind the last of the round has its turn
-abbrev pub invariant-loop-slot : goal.invariant-loop-slot
-invariant-loop-slot l =
-    (l.first ≤ l.slot) × (l.from ≤ l.slot) × (l.from + l.idle ≤ l.slot)
-    × Ran (running l.program l.first l.initial.table) l.program (min l.slot l.end - l.first) (min l.slot l.end % 16) (slots_in l.table) (l.slot - l.from - l.idle)
-
-abbrev pub decreases-loop-slot : goal.decreases-loop-slot
-decreases-loop-slot l = l.stop - l.slot
+abbrev pub invariant-loop-number : goal.invariant-loop-number
+invariant-loop-number l =
+    (l.first ≤ l.number) × (l.from + l.idle ≤ l.number)
+    × Ran (running l.program l.first l.initial.table) l.program (min l.number l.end - l.first) (min l.number l.end % 16) (slots_in l.table) (l.number - l.from - l.idle)

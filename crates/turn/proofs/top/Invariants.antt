@@ -1,12 +1,8 @@
 -- `turn::top` meets its contract: the slots ahead of the one at hand have been looked at.
-use Prim.Native.Nat.{◌≤◌, ◌-◌}
 use mathlib.Core.Path.{◌≡◌}
 use Rattle.machine.specs.Inner.{top_of}
 use Rattle.table.specs.Table.{slots_in}
 use Rattle.turn.proofs.top.Given as goal
 
-abbrev pub invariant-loop-slot : goal.invariant-loop-slot
-invariant-loop-slot l = (l.slot ≤ 16) × (l.top ≡ top_of l.slot (slots_in l.table))
-
-abbrev pub decreases-loop-slot : goal.decreases-loop-slot
-decreases-loop-slot l = 16 - l.slot
+abbrev pub invariant-loop-number : goal.invariant-loop-number
+invariant-loop-number l = l.top ≡ top_of l.number (slots_in l.table)

@@ -1,44 +1,25 @@
--- `turn::top_behind` meets its contract: the slot is used where its kind is not 0.
-use Prim.Native.Nat.{◌+◌, ◌<◌}
-use native.Mathlib.Omega.{arith}
+-- `turn::top_behind` meets its contract: a used slot and its spare lie within the sixteen.
+use mathlib.Core.Path.{◌≡◌, refl, sym, ◌∙◌}
+use mathlib.Core.Bool.{true, false, not}
+use Rattle.machine.specs.State.{Slot, unused, used, slot_at, is_unused}
 use Rattle.table.specs.Table.{slots_in}
-use Rattle.table.specs.Change.{Used}
-use Rattle.table.proofs.Change.{kind_used}
-use Rattle.table.proofs.Slots.{kind_none}
+use Rattle.table.specs.Change.{task_or}
 use Rattle.turn.proofs.top_behind.Goals as goal
 
-pub returns-then-kind-gt0 : goal.returns-then-kind-gt0
-returns-then-kind-gt0 c =
-    let here : Used c.args.slot (slots_in c.args.table.now) = let a = c.args in
-    kind_used (slots_in a.table.now) a.slot (omega (arith, c.kind.ensures, c.if-kind-gt0.true)) in
-    rw (here, c.spare.ensures)
+used_here : (x : Slot) → not (is_unused x) ≡ true → x ≡ used (task_or x)
+used_here unused e = cc
+used_here (used t) e = refl
 
-pub returns-else-kind-gt0 : goal.returns-else-kind-gt0
-returns-else-kind-gt0 c =
+unused_here : (x : Slot) → not (is_unused x) ≡ false → x ≡ unused
+unused_here unused e = refl
+unused_here (used t) e = cc
+
+pub returns-then-is_used : goal.returns-then-is_used
+returns-then-is_used c =
     let a = c.args in
-    rw (kind_none a.table.now a.slot (omega (arith, c.kind.ensures, c.if-kind-gt0.false)))
+    rw (used_here (slot_at (slots_in a.table.now) a.slot.number) (sym c.is_used.ensures ∙ c.if-is_used.true), c.spare.ensures)
 
-pub kind-requires : goal.kind-requires
-kind-requires c = c.requires.0
-
-pub spare-requires : goal.spare-requires
-spare-requires c =
-    let here : Used c.args.slot (slots_in c.args.table.now) = let a = c.args in
-    kind_used (slots_in a.table.now) a.slot (omega (arith, c.kind.ensures, c.if-kind-gt0.true)) in
-    here
-
-pub overflow_add-result : goal.overflow_add-result
-overflow_add-result c =
-    let here : Used c.args.slot (slots_in c.args.table.now) = let a = c.args in
-    kind_used (slots_in a.table.now) a.slot (omega (arith, c.kind.ensures, c.if-kind-gt0.true)) in
-    let fits : c.args.slot + c.spare.result < 16 = let within = rw here at (c.requires.1 c.args.slot) in
-    omega (arith, within.1, c.spare.ensures) in
-    omega (arith, fits)
-
-pub overflow_add-result-then-kind-gt0 : goal.overflow_add-result-then-kind-gt0
-overflow_add-result-then-kind-gt0 c =
-    let here : Used c.args.slot (slots_in c.args.table.now) = let a = c.args in
-    kind_used (slots_in a.table.now) a.slot (omega (arith, c.kind.ensures, c.if-kind-gt0.true)) in
-    let fits : c.args.slot + c.spare.result < 16 = let within = rw here at (c.requires.1 c.args.slot) in
-    omega (arith, within.1, c.spare.ensures) in
-    omega (arith, fits)
+pub returns-else-is_used : goal.returns-else-is_used
+returns-else-is_used c =
+    let a = c.args in
+    rw (unused_here (slot_at (slots_in a.table.now) a.slot.number) (sym c.is_used.ensures ∙ c.if-is_used.false))

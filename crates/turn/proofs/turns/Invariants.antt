@@ -7,7 +7,7 @@ use Rattle.turn.proofs.turns.Given as goal
 
 abbrev pub invariant-loop-left : goal.invariant-loop-left
 invariant-loop-left l =
-    (l.left ≤ l.n) × Ran (running l.program l.first l.initial.table) l.program (l.n - l.left) l.slot (slots_in l.table) l.busy
+    (l.left ≤ l.n) × (l.slot ≤ 15) × Ran (running l.program l.first l.initial.table) l.program (l.n - l.left) l.slot (slots_in l.table) l.busy
 
 abbrev pub decreases-loop-left : goal.decreases-loop-left
 decreases-loop-left l = l.left
