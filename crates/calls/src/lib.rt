@@ -1,19 +1,26 @@
 // The code of the monitor's calls. Each takes any bytes and refuses what it cannot take.
 #![tactic(auto)]
 
-ghost use Rattle.std.specs.Prelude.{◌≡◌, ◌&&◌, eqb, length};
+ghost use Rattle.std.specs.Prelude.{◌≡◌, length, OnOk};
 ghost use Rattle.wire.specs.Slices.{offset_by};
 ghost use Rattle.wire.specs.Inner.{written};
-ghost use Rattle.image.specs.Refusal.{post_number, image_number};
+ghost use Rattle.refusal.specs.Refusal.{number};
+ghost use Rattle.image.specs.Image.{state_of};
+ghost use Rattle.image.specs.Refusal.{turn_limit_number, post_number, image_number};
 ghost use Rattle.image.specs.Part.{record_part, record_extent};
+ghost use Rattle.table.specs.Table.{slots_in};
 ghost use Rattle.snapshot.specs.Writing.{snapshot_bytes};
-ghost use Rattle.monitor.specs.Calls.{output_answer, CallPromise, rewrite_call, turns_call, PostPromise, view_call};
+ghost use Rattle.monitor.specs.Calls.{told, told_post, output_answer, CallPromise, rewrite_call, turns_call, PostPromise, view_call};
 
-// The number of an image, 0 where it is accepted. Nothing is written.
-pub fn check(image: &[u8]) -> u8
-    ensures { result ≡ image_number image.now }
+use monitor::{Posted, Written};
+use refusal::Refusal;
+use table::Table;
+
+// Why an image is refused, if it is. Nothing is written.
+pub fn check(image: &[u8]) -> Result<(), Refusal>
+    ensures { number result ≡ image_number image.now }
 {
-    judge::number(image)
+    judge::check(image)
 }
 
 // The record of a slot, as the part of the image that holds it: no bytes for an unused slot, a slot above 15 or a refused
@@ -32,44 +39,45 @@ pub fn record_extent(image: &[u8], slot: u32) -> image::Extent
     judge::record_extent(image, slot as usize)
 }
 
-// Ends a call whose image is accepted: writes the table's tasks as the observer sees them, or tells 13 where the output has
-// no room for them.
+// Puts the tasks of an image into the table, if the image is accepted.
+fn load(table: &mut Table, image: &[u8]) -> Result<(), Refusal>
+    ensures { (number result ≡ image_number image.now) × OnOk result (slots_in table.new ≡ (state_of image.now).slots) }
+{
+    check(image)?;
+    loader::load(table, image);
+    Ok(())
+}
+
+// Ends a call whose image is accepted: writes the table's tasks as the observer sees them, if the output has room for them.
 fn write_answer(
     out: &mut [u8],
-    table: &table::Table,
+    table: &Table,
     image: &[u8],
     turn: u8,
     observer: u8,
     busy: u64,
-) -> monitor::Answer
-    ensures { (result ≡ output_answer (length (snapshot_bytes table.now image.now turn observer)) busy (length out.old))
+) -> Result<Written, Refusal>
+    ensures { (told result ≡ output_answer (length (snapshot_bytes table.now image.now turn observer)) busy (length out.old))
         × (out.new ≡ written (snapshot_bytes table.now image.now turn observer) out.old) }
 {
     let size = snapshot::write(out, table, image, turn, observer);
-    monitor::answered(size, busy, out.len())
+    monitor::end_call(size, busy, out.len())
 }
 
 // Writes the view of an image for an observer.
-pub fn view(image: &[u8], observer: u32, out: &mut [u8]) -> monitor::Answer
-    ensures { CallPromise (view_call observer image.now) out.old result out.new }
+pub fn view(image: &[u8], observer: u32, out: &mut [u8]) -> Result<Written, Refusal>
+    ensures { CallPromise (view_call observer image.now) out.old (told result) out.new }
 {
-    if observer > 15 {
-        return monitor::refused(1);
-    }
-    let number = judge::number(image);
-    if number == 0 {
-        let mut table: table::Table = [0; table::WORDS];
-        loader::load(&mut table, image);
-        let turn = image::turn_slot(image);
-        write_answer(out, &table, image, turn, observer as u8, 0)
-    } else {
-        monitor::refused(number)
-    }
+    let label = monitor::check_observer(observer)?;
+    let mut table: Table = [0; table::WORDS];
+    load(&mut table, image)?;
+    let turn = image::turn_slot(image);
+    write_answer(out, &table, image, turn, label, 0)
 }
 
 // Writes an image again as it was read: for label 15 the view is the image.
-pub fn rewrite(image: &[u8], out: &mut [u8]) -> monitor::Answer
-    ensures { CallPromise (rewrite_call image.now) out.old result out.new }
+pub fn rewrite(image: &[u8], out: &mut [u8]) -> Result<Written, Refusal>
+    ensures { CallPromise (rewrite_call image.now) out.old (told result) out.new }
 {
     view(image, 15, out)
 }
@@ -77,64 +85,56 @@ pub fn rewrite(image: &[u8], out: &mut [u8]) -> monitor::Answer
 // The most turns that one call carries out.
 const TURN_LIMIT: u64 = 1_000_000;
 
-// Writes the image after this many turns, and tells how many of them met a live task.
-pub fn turns(image: &[u8], count: u64, out: &mut [u8]) -> monitor::Answer
-    ensures { CallPromise (turns_call count image.now) out.old result out.new }
+fn check_count(count: u64) -> Result<(), Refusal>
+    ensures { number result ≡ turn_limit_number count }
 {
     if count > TURN_LIMIT {
-        return monitor::refused(2);
-    }
-    let number = judge::number(image);
-    if number == 0 {
-        let mut table: table::Table = [0; table::WORDS];
-        loader::load(&mut table, image);
-        let turn = image::turn_slot(image);
-        let ran = turn::turns(&mut table, image::program(image), turn, count);
-        write_answer(out, &table, image, ran.turn, 15, ran.busy)
+        Err(Refusal::TurnLimit)
     } else {
-        monitor::refused(number)
+        Ok(())
     }
 }
 
-// The number of a post's arguments: 14 slot, then 15 label.
-fn post_number(slot: u32, label: u32) -> u8
-    ensures { result ≡ post_number slot label }
+// Writes the image after this many turns, and tells how many of them met a live task.
+pub fn turns(image: &[u8], count: u64, out: &mut [u8]) -> Result<Written, Refusal>
+    ensures { CallPromise (turns_call count image.now) out.old (told result) out.new }
+{
+    check_count(count)?;
+    let mut table: Table = [0; table::WORDS];
+    load(&mut table, image)?;
+    let turn = image::turn_slot(image);
+    let ran = turn::turns(&mut table, image::program(image), turn, count);
+    write_answer(out, &table, image, ran.turn, 15, ran.busy)
+}
+
+// The arguments of a post: the slot, then the label.
+fn check_post(slot: u32, label: u32) -> Result<(), Refusal>
+    ensures { number result ≡ post_number slot label }
 {
     if slot > 15 {
-        14
+        Err(Refusal::PostSlot)
     } else if label > 15 {
-        15
+        Err(Refusal::PostLabel)
     } else {
-        0
-    }
-}
-
-// What a post tells, given whether its message joined a mailbox: a refusal says dropped.
-fn post_answer(answer: monitor::Answer, joined: bool) -> monitor::PostAnswer
-    ensures { result ≡ record { answer = answer; delivered = eqb answer.number 0 && joined } }
-{
-    monitor::PostAnswer {
-        answer: answer,
-        delivered: (answer.number == 0) & joined,
+        Ok(())
     }
 }
 
 // Writes the image once the host's message has gone to a slot, and tells whether it was delivered.
-pub fn post(image: &[u8], slot: u32, label: u32, value: u32, out: &mut [u8]) -> monitor::PostAnswer
-    ensures { PostPromise slot label value image.now out.old result out.new }
+pub fn post(
+    image: &[u8],
+    slot: u32,
+    label: u32,
+    value: u32,
+    out: &mut [u8],
+) -> Result<Posted, Refusal>
+    ensures { PostPromise slot label value image.now out.old (told_post result) out.new }
 {
-    let beyond = post_number(slot, label);
-    if beyond > 0 {
-        return post_answer(monitor::refused(beyond), false);
-    }
-    let number = judge::number(image);
-    if number == 0 {
-        let mut table: table::Table = [0; table::WORDS];
-        loader::load(&mut table, image);
-        let joined = effect::deliver(&mut table, slot, label as u8, image::HOST, value);
-        let turn = image::turn_slot(image);
-        post_answer(write_answer(out, &table, image, turn, 15, 0), joined)
-    } else {
-        post_answer(monitor::refused(number), false)
-    }
+    check_post(slot, label)?;
+    let mut table: Table = [0; table::WORDS];
+    load(&mut table, image)?;
+    let delivered = effect::deliver(&mut table, slot, label as u8, image::HOST, value);
+    let turn = image::turn_slot(image);
+    let written = write_answer(out, &table, image, turn, 15, 0)?;
+    Ok(Posted { written, delivered })
 }

@@ -8,16 +8,23 @@ use native.Mathlib.Omega.{arith}
 use borrow.Author.Tests.{leb-true, leb-false, le-leb, lt-leb, eqb-true, eqb-false, ne_eqb}
 use lib.Dec.{leb, eqb}
 use lib.ListN.{length, take}
+use Rattle.std.specs.Result.{IsErrAnd}
+use Rattle.std.proofs.Common.{Result}
+use Rattle.std.proofs.lemmas.Result.{err_from_is_err_and}
 use Rattle.wire.specs.Lists.{Bytes}
 use Rattle.wire.specs.Output.{overwrite}
 use Rattle.wire.specs.Inner.{written}
 use Rattle.wire.proofs.Lists.{split}
 use Rattle.wire.proofs.Output.{take_overwrite, drop_overwrite, length_overwrite, length_written}
 use Rattle.machine.specs.Limits.{highest_label, highest_slot}
+use Rattle.refusal.specs.declared.Refusal.{Refusal}
+use Rattle.refusal.specs.declared.Refusal.TheVariants.{Observer, TurnLimit, Short, Version, ProgramLength, Instruction, TurnSlot, RecordLength, TaskField, Mail, Tail, Estate, Output, PostSlot, PostLabel, Text}
+use Rattle.refusal.specs.Refusal.{number_of}
 use Rattle.image.specs.Refusal.{observer_number, post_number, ◌then◌, unless, image_number}
 use Rattle.image.proofs.Refusal.{then_stop, then_left, then_right, then_holds, unless_holds, unless_none, unless_given, Listed, listed_not}
 use Rattle.monitor.specs.declared.Answer.{Answer}
-use Rattle.monitor.specs.Calls.{Call, call_number, refusal, output_answer, call_answer, call_output, CallPromise}
+use Rattle.monitor.specs.declared.Written.{Written}
+use Rattle.monitor.specs.Calls.{Call, call_number, refusal, told, output_answer, call_answer, call_output, CallPromise}
 use Rattle.monitor.specs.Claims.{Accepted, Exactly, NumbersByCause, WritesItsAnswer, TellTheSame}
 
 -- ---- what is told once b was written where the output has room: r, its length, was compared with that of the output afterwards
@@ -97,6 +104,26 @@ module _ (slot label : ℕ) where
       tests true true e = absurd (omega arith)
       tests true false e = (refl, refl)
       tests false u e = absurd (omega arith)
+
+-- ---- every refusal has a number
+
+pub refusal_some : (e : Refusal) → number_of e ≢ 0
+refusal_some Observer e = omega arith
+refusal_some TurnLimit e = omega arith
+refusal_some Short e = omega arith
+refusal_some Version e = omega arith
+refusal_some ProgramLength e = omega arith
+refusal_some Instruction e = omega arith
+refusal_some TurnSlot e = omega arith
+refusal_some RecordLength e = omega arith
+refusal_some TaskField e = omega arith
+refusal_some Mail e = omega arith
+refusal_some Tail e = omega arith
+refusal_some Estate e = omega arith
+refusal_some Output e = omega arith
+refusal_some PostSlot e = omega arith
+refusal_some PostLabel e = omega arith
+refusal_some Text e = omega arith
 
 -- ---- a call by its number
 
@@ -233,6 +260,10 @@ module _ (c : Call) (out : List ℕ) where
   call_beyond {k} beyond some told =
       rw (told, ← beyond, then_stop k some (c.input_number then unless (leb (length c.bytes) (length out)) 13), ne_eqb k 0 some) (refl, refl)
 
+  -- what its code returns there
+  pub beyond_told : (r : Result Written Refusal) (e : Refusal) → IsErrAnd r (λ y. y ≡ e) → number_of e ≡ c.argument_number → CallPromise c out (told r) out
+  beyond_told r e is number = let p = err_from_is_err_and r is in rw (p.1, p.2) (call_beyond number (refusal_some e) refl)
+
   -- ---- a call whose arguments are within their limits
 
   module _ (argument : c.argument_number ≡ 0) where
@@ -242,6 +273,10 @@ module _ (c : Call) (out : List ℕ) where
     unfolding call_answer call_output call_number
     call_refused {k = k} number refused told =
         rw (told, argument, ← number, then_stop k refused (unless (leb (length c.bytes) (length out)) 13), ne_eqb k 0 refused) (refl, refl)
+
+    -- what its code returns there
+    pub refused_told : (r : Result Written Refusal) (e : Refusal) → IsErrAnd r (λ y. y ≡ e) → number_of e ≡ c.input_number → CallPromise c out (told r) out
+    refused_told r e is number = let p = err_from_is_err_and r is in rw (p.1, p.2) (call_refused number (refusal_some e) refl)
 
     -- what it reads is accepted, and its bytes are written where the output has room for them
     pub call_accepted : c.input_number ≡ 0 → {b after : List ℕ} {k : ℕ} {r : Answer} → b ≡ c.bytes → k ≡ c.busy

@@ -61,6 +61,17 @@ input_of a = a.0
 abbrev pub call_of : {A B : Type 0} → A × B → A
 call_of a = a.0
 
+-- of a check an argument of a call
+abbrev pub argument_of : {A B : Type 0} → A × B → A
+argument_of a = a.0
+
+-- of an answer that is made the output stands ahead of it
+abbrev pub target_of : {A B : Type 0} → A × B → A
+target_of a = a.0
+
+abbrev pub answer_of : {A B C : Type 0} → A × (B × C) → B
+answer_of a = a.1.0
+
 -- of what is told of bytes that were written: how many, the busy count, and the output's room
 abbrev pub size_of : {A B : Type 0} → A × B → A
 size_of a = a.0

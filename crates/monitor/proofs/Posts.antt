@@ -1,18 +1,23 @@
 -- Laws of a post: when it says delivered, and that a call which says so keeps its promise.
 use Prim.Native.Nat.{ℕ}
 use mathlib.Core.Logic.{◌≢◌}
-use mathlib.Core.Path.{◌≡◌, sym, ap, ◌∙◌}
-use mathlib.Core.Bool.{Bool, false, ◌&&◌}
+use mathlib.Core.Path.{◌≡◌, refl, sym, ap, ◌∙◌}
+use mathlib.Core.Bool.{Bool, false}
 use mathlib.Core.List.{List}
-use borrow.Author.Tests.{eqb-true, eq-eqb, ne_eqb}
-use lib.Dec.{eqb}
-use Rattle.wire.proofs.Lists.{split}
+use borrow.Author.Tests.{eq-eqb, ne_eqb}
+use Rattle.std.specs.Result.{IsErrAnd}
+use Rattle.std.proofs.Common.{Result, Ok, Err}
+use Rattle.std.proofs.lemmas.Result.{err_from_is_err_and}
+use Rattle.refusal.specs.declared.Refusal.{Refusal}
+use Rattle.refusal.specs.Refusal.{number_of}
 use Rattle.machine.specs.Post.{delivered}
 use Rattle.image.specs.Image.{state_of}
+use Rattle.image.specs.Refusal.{post_number, image_number}
 use Rattle.monitor.specs.declared.Answer.{Answer}
-use Rattle.monitor.specs.declared.PostAnswer.{PostAnswer}
-use Rattle.monitor.specs.Calls.{call_number, refusal, call_answer, CallPromise, post_call, post_delivered, PostPromise}
-use Rattle.monitor.proofs.Calls.{answer_number}
+use Rattle.monitor.specs.declared.Written.{Written}
+use Rattle.monitor.specs.declared.Posted.{Posted}
+use Rattle.monitor.specs.Calls.{call_number, call_answer, told, told_post, CallPromise, post_call, post_delivered, PostPromise}
+use Rattle.monitor.proofs.Calls.{answer_number, refusal_some, call_beyond, call_refused}
 
 module _ (slot label value : ℕ) (image out : List ℕ) where
   -- ---- what it says
@@ -26,16 +31,26 @@ module _ (slot label value : ℕ) (image out : List ℕ) where
 
   -- ---- a call that goes so, and says so of its message, keeps the promise
 
-  module _ {a : Answer} {after : List ℕ} (p : CallPromise (post_call slot label value image) out a after) where
-    number_is : a.number ≡ call_number (post_call slot label value image) out
-    number_is = ap (λ (x : Answer). x.number) p.0 ∙ answer_number (post_call slot label value image) out
+  number_is : {a : Answer} {after : List ℕ} → CallPromise (post_call slot label value image) out a after
+      → a.number ≡ call_number (post_call slot label value image) out
+  number_is p = ap (λ (x : Answer). x.number) p.0 ∙ answer_number (post_call slot label value image) out
 
-    pub post_told : {joined : Bool} {r : PostAnswer} → (a.number ≡ 0 → joined ≡ delivered slot label value (state_of image))
-        → r ≡ record { answer = a; delivered = eqb a.number 0 && joined } → PostPromise slot label value image out r after
-    post_told same told =
-        rw told (p, rw (← number_is) (split (eqb a.number 0) (λ e. rw e (same (eqb-true a.number 0 e))) (λ e. rw e)))
+  pub post_told : (w : Written) (joined : Bool) {after : List ℕ} → CallPromise (post_call slot label value image) out (told (Ok w)) after
+      → joined ≡ delivered slot label value (state_of image)
+      → PostPromise slot label value image out (told_post (Ok (record { written = w; delivered = joined }))) after
+  post_told w joined p same = (p, rw (← number_is p) same)
 
-    -- a refused one
-    pub post_refused : {k : ℕ} → a ≡ refusal k → k ≢ 0 → {r : PostAnswer} → r ≡ record { answer = a; delivered = eqb a.number 0 && false }
-        → PostPromise slot label value image out r after
-    post_refused e some = post_told (λ z. absurd (some (ap (λ (x : Answer). x.number) (sym e) ∙ z)))
+  -- a refused one, as `?` leaves it
+  module _ (r : Result Posted Refusal) (e : Refusal) (is : IsErrAnd r (λ y. y ≡ e)) where
+    pub post_refused : {after : List ℕ} → CallPromise (post_call slot label value image) out (told (Err e)) after
+        → PostPromise slot label value image out (told_post r) after
+    post_refused p =
+        let q = err_from_is_err_and r is in
+        rw (q.1, q.2) (p, rw (← number_is p, ne_eqb (number_of e) 0 (refusal_some e)))
+
+    -- for its arguments, and for its image
+    pub post_beyond : number_of e ≡ post_number slot label → PostPromise slot label value image out (told_post r) out
+    post_beyond number = post_refused (call_beyond (post_call slot label value image) out number (refusal_some e) refl)
+
+    pub post_met : post_number slot label ≡ 0 → number_of e ≡ image_number image → PostPromise slot label value image out (told_post r) out
+    post_met within number = post_refused (call_refused (post_call slot label value image) out within number (refusal_some e) refl)

@@ -2,7 +2,10 @@
 // above.
 #![tactic(auto)]
 
-ghost use Rattle.std.specs.Prelude.{◌≡◌};
+ghost use Rattle.std.specs.Prelude.{◌≡◌, length, IfOk};
+ghost use Rattle.wire.specs.Inner.{written};
+ghost use Rattle.refusal.specs.Refusal.{number};
+ghost use Rattle.image.specs.Refusal.{observer_number};
 ghost use Rattle.monitor.specs.Calls.{output_answer, told, told_post};
 
 use refusal::Refusal;
@@ -72,6 +75,17 @@ impl From<Result<Posted, Refusal>> for PostAnswer {
     }
 }
 
+// The label of an observer.
+pub fn check_observer(observer: u32) -> Result<u8, Refusal>
+    ensures { (number result ≡ observer_number observer) × IfOk result (λ label. label ≡ observer) }
+{
+    if observer > 15 {
+        Err(Refusal::Observer)
+    } else {
+        Ok(observer as u8)
+    }
+}
+
 // Ends a call that has written `size` bytes if the output has room for them, and refuses it where it has not.
 pub fn end_call(size: usize, busy: u64, room: usize) -> Result<Written, Refusal>
     ensures { told result ≡ output_answer size busy room }
@@ -84,4 +98,13 @@ pub fn end_call(size: usize, busy: u64, room: usize) -> Result<Written, Refusal>
     } else {
         Err(Refusal::Output)
     }
+}
+
+// Ends a call whose answer is made: writes it if the output has room for it, and refuses the call where it has not.
+pub fn write_answer(out: &mut [u8], answer: &[u8]) -> Result<Written, Refusal>
+    ensures { (told result ≡ output_answer (length answer.now) 0 (length out.old))
+        × (out.new ≡ written answer.now out.old) }
+{
+    wire::copy(out, answer);
+    end_call(answer.len(), 0, out.len())
 }

@@ -4,12 +4,17 @@
 ghost use Rattle.std.specs.Prelude.{◌≤◌, ◌<◌, ◌≡◌, length};
 ghost use Rattle.wire.specs.Output.{overwrite};
 ghost use Rattle.wire.specs.Inner.{written};
+ghost use Rattle.refusal.specs.Refusal.{number_of};
 ghost use Rattle.machine.specs.Limits.{sheet_room};
 ghost use Rattle.table.specs.Table.{slots_in};
 ghost use Rattle.table.specs.Change.{task_at, Used};
-ghost use Rattle.monitor.specs.Calls.{output_answer, CallPromise};
+ghost use Rattle.monitor.specs.Calls.{output_answer, told, CallPromise};
 ghost use Rattle.sheet.specs.Sheet.{sheet_call, refusal_line, printed};
 ghost use Rattle.sheet.specs.Inner.{shown_task_line, shown_line, shown_lines, shown_sheet};
+
+use monitor::Written;
+use refusal::Refusal;
+use table::Table;
 
 // No sheet is longer, in bytes: the heading, and sixteen lines of at most eighteen.
 pub const SHEET_MAX: usize = 318;
@@ -20,7 +25,7 @@ pub const INPUT_MAX: usize = 8192;
 // ---- the sheet
 
 // Writes the line of a task that the observer sees: how many bytes.
-fn put_task_line(out: &mut [u8], table: &table::Table, slot: u8, observer: u8) -> usize
+fn put_task_line(out: &mut [u8], table: &Table, slot: u8, observer: u8) -> usize
     requires { Used slot (slots_in table.now)
         × (length (shown_task_line observer slot (task_at (slots_in table.now) slot)) ≤ length out.old) }
     ensures { (result ≡ length (shown_task_line observer slot (task_at (slots_in table.now) slot)))
@@ -37,7 +42,7 @@ fn put_task_line(out: &mut [u8], table: &table::Table, slot: u8, observer: u8) -
 }
 
 // Writes the line of a slot, where the observer sees a task in it: how many bytes.
-fn put_line(out: &mut [u8], table: &table::Table, slot: u8, observer: u8) -> usize
+fn put_line(out: &mut [u8], table: &Table, slot: u8, observer: u8) -> usize
     requires { (slot < 16) × (length (shown_line observer (slots_in table.now) slot) ≤ length out.old) }
     ensures { (result ≡ length (shown_line observer (slots_in table.now) slot))
         × (out.new ≡ overwrite (shown_line observer (slots_in table.now) slot) out.old) }
@@ -50,16 +55,14 @@ fn put_line(out: &mut [u8], table: &table::Table, slot: u8, observer: u8) -> usi
 }
 
 // Writes the lines of all slots: how many bytes.
-fn put_lines(out: &mut [u8], table: &table::Table, observer: u8) -> usize
+fn put_lines(out: &mut [u8], table: &Table, observer: u8) -> usize
     requires { length (shown_lines observer (slots_in table.now)) ≤ length out.old }
     ensures { (result ≡ length (shown_lines observer (slots_in table.now)))
         × (out.new ≡ overwrite (shown_lines observer (slots_in table.now)) out.old) }
 {
     let mut at: usize = 0;
-    let mut slot: u8 = 0;
-    while slot < 16 {
+    for slot in 0..16 {
         at += put_line(&mut out[at..], table, slot, observer);
-        slot += 1;
     }
     at
 }
@@ -68,7 +71,7 @@ fn put_lines(out: &mut [u8], table: &table::Table, observer: u8) -> usize
 const HEADING_LENGTH: usize = 30;
 
 // Writes the heading and the lines: how many bytes.
-fn put_sheet(out: &mut [u8], table: &table::Table, observer: u8) -> usize
+fn put_sheet(out: &mut [u8], table: &Table, observer: u8) -> usize
     requires { length (shown_sheet observer table.now) ≤ length out.old }
     ensures { (result ≡ length (shown_sheet observer table.now))
         × (out.new ≡ overwrite (shown_sheet observer table.now) out.old) }
@@ -77,34 +80,27 @@ fn put_sheet(out: &mut [u8], table: &table::Table, observer: u8) -> usize
     HEADING_LENGTH + put_lines(&mut out[HEADING_LENGTH..], table, observer)
 }
 
-// Ends a call whose image is accepted: writes the sheet of the table's tasks as the observer sees them, or tells 13 where
-// the output has no room for it. The sheet is made in a buffer of its own first: only then is its length known.
-fn write_answer(out: &mut [u8], table: &table::Table, observer: u8) -> monitor::Answer
+// Ends a call whose image is accepted: writes the sheet of the table's tasks as the observer sees them, if the output has room
+// for it. The sheet is made in a buffer of its own first: only then is its length known.
+fn write_answer(out: &mut [u8], table: &Table, observer: u8) -> Result<Written, Refusal>
     requires { length (shown_sheet observer table.now) ≤ sheet_room }
-    ensures { (result ≡ output_answer (length (shown_sheet observer table.now)) 0 (length out.old))
+    ensures { (told result ≡ output_answer (length (shown_sheet observer table.now)) 0 (length out.old))
         × (out.new ≡ written (shown_sheet observer table.now) out.old) }
 {
     let mut text: [u8; SHEET_MAX] = [0; SHEET_MAX];
     let length = put_sheet(&mut text, table, observer);
-    wire::copy(out, &text[..length]);
-    monitor::answered(length, 0, out.len())
+    monitor::write_answer(out, &text[..length])
 }
 
 // Writes the sheet of an image's view for an observer.
-pub fn write(image: &[u8], observer: u32, out: &mut [u8]) -> monitor::Answer
-    ensures { CallPromise (sheet_call observer image.now) out.old result out.new }
+pub fn write(image: &[u8], observer: u32, out: &mut [u8]) -> Result<Written, Refusal>
+    ensures { CallPromise (sheet_call observer image.now) out.old (told result) out.new }
 {
-    if observer > 15 {
-        return monitor::refused(1);
-    }
-    let number = judge::number(image);
-    if number == 0 {
-        let mut table: table::Table = [0; table::WORDS];
-        loader::load(&mut table, image);
-        write_answer(out, &table, observer as u8)
-    } else {
-        monitor::refused(number)
-    }
+    let label = monitor::check_observer(observer)?;
+    judge::check(image)?;
+    let mut table: Table = [0; table::WORDS];
+    loader::load(&mut table, image);
+    write_answer(out, &table, label)
 }
 
 // ---- what the program prints
@@ -113,12 +109,14 @@ pub fn write(image: &[u8], observer: u32, out: &mut [u8]) -> monitor::Answer
 const WORD_LENGTH: usize = 7;
 
 // Writes the line that tells a refusal: how many bytes.
-fn put_refusal(out: &mut [u8], number: u8) -> usize
-    requires { length (refusal_line number) ≤ length out.old }
-    ensures { (result ≡ length (refusal_line number)) × (out.new ≡ overwrite (refusal_line number) out.old) }
+fn put_refusal(out: &mut [u8], refusal: Refusal) -> usize
+    requires { length (refusal_line (number_of refusal)) ≤ length out.old }
+    ensures { (result ≡ length (refusal_line (number_of refusal)))
+        × (out.new ≡ overwrite (refusal_line (number_of refusal)) out.old) }
 {
     wire::copy(out, b"refused");
-    WORD_LENGTH + text::put_line_rest(&mut out[WORD_LENGTH..], &[number as u32])
+    let number = u8::from(refusal) as u32;
+    WORD_LENGTH + text::put_line_rest(&mut out[WORD_LENGTH..], &[number])
 }
 
 // Writes all that the program prints for its standard input, an observer byte and then an image: how many bytes.
@@ -127,15 +125,13 @@ pub fn print(input: &[u8], out: &mut [u8; SHEET_MAX]) -> usize
         × (out.new ≡ overwrite (printed input.now) out.old) }
 {
     if input.len() > INPUT_MAX {
-        return put_refusal(out, 11);
+        return put_refusal(out, Refusal::Tail);
     }
-    if input.len() == 0 {
-        return put_refusal(out, 3);
-    }
-    let told = write(&input[1..], input[0] as u32, out);
-    if told.number == 0 {
-        told.length
-    } else {
-        put_refusal(out, told.number)
+    let Some((&observer, image)) = input.split_first() else {
+        return put_refusal(out, Refusal::Short);
+    };
+    match write(image, observer as u32, out) {
+        Ok(written) => written.length,
+        Err(refusal) => put_refusal(out, refusal),
     }
 }

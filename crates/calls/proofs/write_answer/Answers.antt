@@ -7,4 +7,4 @@ pub returns : goal.returns
 returns c =
     let a = c.args in
     let w = c.write-size.ensures in
-    told_written (snapshot_bytes a.table.now a.image.now a.turn a.observer) a.out.now a.busy w.0 w.1 c.answered.ensures
+    told_written (snapshot_bytes a.table.now a.image.now a.turn a.observer) a.out.now a.busy w.0 w.1 c.end_call.ensures
