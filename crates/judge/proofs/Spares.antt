@@ -7,7 +7,7 @@ use native.Mathlib.Decide.{dec_lt}
 use native.Mathlib.Nat.{not-suc-le-zero}
 use native.Mathlib.Numerals.{add-one}
 use native.Mathlib.Omega.{arith}
-use borrow.Author.Tests.{leb-true, le-leb}
+use borrow.Author.Tests.{leb-true, le-leb, lt-leb}
 use lib.Dec.{leb, eqb, eqb-suc-zero}
 use lib.ListN.{length, get_or, get_or-eq_default}
 use Rattle.wire.specs.Lists.{each}
@@ -104,5 +104,12 @@ module _ (v : ℕ) where
     pub free_at : free_from (slots_of v 16 b) (s + 1) ≡ max (free_from (slots_of v 16 b) s) (s + get_or (record_of (skip s b)) (2 + clearance_width v) 0 + 1)
     free_at = free_next (slots_of v 16 b) s ∙ rw (slot_at_lem v 16 s b h, spare_byte)
 
--- the pass: no slot seen, one more, one that is not clear, all sixteen
-pub ruleset by_slot = (skip_none, skip_next, free_none, free_at, each_none, each_more, each_fails, clear_at, spares_clear, length_slots_of)
+    -- a used slot below the first that is free
+    pub spare_used : (r : List ℕ) → r ≡ record_of (skip s b) → eqb (length r) 0 ≡ false → (f : ℕ) → f ≡ free_from (slots_of v 16 b) s → s < f → spares_unused (slots_of v 16 b) ≡ false
+    spare_used r e full f is high =
+        let ss = slots_of v 16 b in
+        let below : s < free_from ss s = omega arith in
+        spares_clear ss (length_slots_of v 16 b) ∙ each_fails 16 (is_clear ss) s h (rw (clear_at, ← e, full, lt-leb (free_from ss s) s below))
+
+-- the pass: no slot seen, one more, one that is in a spare, all sixteen
+pub ruleset by_slot = (skip_none, skip_next, free_none, free_at, each_none, each_more, clear_at, spare_used, spares_clear, length_slots_of)

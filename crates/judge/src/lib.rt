@@ -236,7 +236,7 @@ fn spares_unused(version: u8, b: &[u8]) -> bool
     let mut free_from: usize = 0;
     for slot in 0..16 {
         let record = image::front_record(rest);
-        if record.is_empty() | (free_from <= slot) {
+        if free_from <= slot || record.is_empty() {
             let spare = wire::byte_at(record, at) as usize;
             free_from = free_from.max(slot + spare + 1);
             rest = image::behind(rest);
