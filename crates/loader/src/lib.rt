@@ -31,9 +31,9 @@ fn label_planes(mailbox: &[u8]) -> LabelPlanes
     requires { length mailbox.now / message_size ≤ mailbox_room }
     ensures { result ≡ planes_of (labels_of mailbox.now) }
 {
-    let mut gathered = planes::no_labels();
+    let mut gathered = LabelPlanes::none();
     for message in mailbox.chunks_exact(image::MESSAGE_SIZE).rev() {
-        gathered = planes::ahead(gathered, message[0]);
+        gathered = gathered.ahead(message[0]);
     }
     gathered
 }

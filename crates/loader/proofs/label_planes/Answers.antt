@@ -18,7 +18,7 @@ loop-message-init c =
     record {
       size = ap chunks_exact_size source ∙ c.chunks_exact.ensures.size;
       left = rw rest (chunks_all m);
-      gathered = rw rest (c.no_labels-gathered.ensures ∙ labels_none m);
+      gathered = rw rest (c.none-gathered.ensures ∙ labels_none m);
     }
 
 pub ahead-gathered-requires : goal.ahead-gathered-requires
