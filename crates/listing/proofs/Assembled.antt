@@ -17,16 +17,8 @@ use Rattle.instruction.proofs.Program.{at_within, legal_at}
 use Rattle.image.specs.Refusal.{◌then◌, unless, instructions_number}
 use Rattle.image.proofs.Refusal.{then_left, then_right, unless_none, instructions_number_lem}
 use Rattle.monitor.specs.declared.Answer.{Answer}
-use Rattle.refusal.specs.declared.Refusal.{Refusal}
-use Rattle.refusal.specs.declared.Refusal.TheVariants.{Observer, TurnLimit, Short, Version, ProgramLength, Instruction, TurnSlot, RecordLength, TaskField, Mail, Tail, Estate, Output, PostSlot, PostLabel, Text}
-use Rattle.refusal.specs.Refusal.{number_of}
-use Rattle.monitor.specs.declared.Written.{Written}
-use Rattle.monitor.specs.Calls.{Call, CallPromise, told}
-use Rattle.std.specs.Prelude.{Result}
-use Rattle.std.specs.Result.{IsErrAnd}
-use Rattle.std.proofs.lemmas.Result.{err_from_is_err_and}
-use mathlib.Core.Logic.{◌≢◌}
-use Rattle.monitor.proofs.Calls.{busy_0, call_refused}
+use Rattle.monitor.specs.Calls.{CallPromise, told}
+use Rattle.monitor.proofs.Calls.{busy_0}
 use Rattle.listing.specs.Listing.{Line, line, Spells, is_bytes, is_admitted, lines_number, line_bytes, program_bytes, assemble_call, no_list_call, AssemblePromise, line_of, lines_of}
 use Rattle.listing.specs.Inner.{Kept, kept_number}
 use Rattle.listing.proofs.Texts.{lines_unique, reading, spelled, other}
@@ -126,29 +118,3 @@ assembled_busy text out told after p =
       | spelled ls s ↦ ap (λ (a : Answer). a.busy) (p.list ls s).0 ∙ busy_0 (assemble_call ls) out refl
       | other f ↦ ap (λ (a : Answer). a.busy) (p.other f).0 ∙ busy_0 no_list_call out refl
     ]
-
--- ---- what the code of a call returns where it refuses what it read
-
-refusal_some : (e : Refusal) → number_of e ≢ 0
-refusal_some Observer z = omega arith
-refusal_some TurnLimit z = omega arith
-refusal_some Short z = omega arith
-refusal_some Version z = omega arith
-refusal_some ProgramLength z = omega arith
-refusal_some Instruction z = omega arith
-refusal_some TurnSlot z = omega arith
-refusal_some RecordLength z = omega arith
-refusal_some TaskField z = omega arith
-refusal_some Mail z = omega arith
-refusal_some Tail z = omega arith
-refusal_some Estate z = omega arith
-refusal_some Output z = omega arith
-refusal_some PostSlot z = omega arith
-refusal_some PostLabel z = omega arith
-refusal_some Text z = omega arith
-
-pub refused_told : (call : Call) (out : List ℕ) → call.argument_number ≡ 0 → (r : Result Written Refusal) (e : Refusal) → IsErrAnd r (λ y. y ≡ e)
-    → number_of e ≡ call.input_number → CallPromise call out (told r) out
-refused_told call out argument r e is number =
-    let p = err_from_is_err_and r is in
-    rw (p.1, p.2) (call_refused call out argument number (refusal_some e) refl)

@@ -4,9 +4,8 @@
 
 ghost use Rattle.std.specs.Prelude.{◌≤◌, ◌≡◌, length};
 ghost use Rattle.wire.specs.Output.{overwrite};
-ghost use Rattle.wire.specs.Inner.{written};
 ghost use Rattle.refusal.specs.Refusal.{number};
-ghost use Rattle.monitor.specs.Calls.{output_answer, told, CallPromise};
+ghost use Rattle.monitor.specs.Calls.{told, CallPromise};
 ghost use Rattle.listing.specs.Listing.{line_text, listing_text, line_of, AssemblePromise, part_number, lines_of, disassemble_call};
 ghost use Rattle.listing.specs.Inner.{read_line, told_bytes, kept, IsRead, kept_number};
 
@@ -87,6 +86,7 @@ fn read_text(program: &mut [u8], text: &[u8]) -> Result<ReadText, Refusal>
     let mut rest = text;
     let mut lines: usize = 0;
     let mut bytes = true;
+    // A line is as long as its parts are, and one that is none ends all: an iterator of lines would hide both behind a type of its own.
     while !rest.is_empty() {
         let line = read_line(rest).ok_or(Refusal::Text)?;
         match line_bytes(line) {
@@ -112,15 +112,6 @@ fn check_lines(program: &[u8], read: ReadText) -> Result<(), Refusal>
     judge::check_instructions(wire::take(program, 4 * read.lines))
 }
 
-// Ends a call that refuses nothing it read: writes the answer where the output has room for it.
-fn write_answer(out: &mut [u8], answer: &[u8]) -> Result<Written, Refusal>
-    ensures { (told result ≡ output_answer (length answer.now) 0 (length out.old))
-        × (out.new ≡ written answer.now out.old) }
-{
-    wire::copy(out, answer);
-    monitor::end_call(answer.len(), 0, out.len())
-}
-
 // Writes the program of a text.
 pub fn assemble(text: &[u8], out: &mut [u8]) -> Result<Written, Refusal>
     ensures { AssemblePromise text.now out.old (told result) out.new }
@@ -128,7 +119,7 @@ pub fn assemble(text: &[u8], out: &mut [u8]) -> Result<Written, Refusal>
     let mut program: [u8; PROGRAM_MAX] = [0; PROGRAM_MAX];
     let read = read_text(&mut program, text)?;
     check_lines(&program, read)?;
-    write_answer(out, &program[..4 * read.lines])
+    monitor::write_answer(out, &program[..4 * read.lines])
 }
 
 // ---- the lister
@@ -179,5 +170,5 @@ pub fn disassemble(program: &[u8], out: &mut [u8]) -> Result<Written, Refusal>
     check_program(program)?;
     let mut text: [u8; LISTING_MAX] = [0; LISTING_MAX];
     let n = put_lines(&mut text, program);
-    write_answer(out, &text[..n])
+    monitor::write_answer(out, &text[..n])
 }

@@ -1,9 +1,9 @@
 -- `listing::assemble` meets its contract: a list has the number of the lines that were kept of it, and their bytes are copied.
 use mathlib.Core.Path.{refl, sym, ◌∙◌}
 use native.Mathlib.Omega.{arith}
-use Rattle.monitor.proofs.Calls.{call_accepted}
+use Rattle.monitor.proofs.Calls.{refused_told, call_accepted}
 use Rattle.listing.specs.Listing.{assemble_call, no_list_call}
-use Rattle.listing.proofs.Assembled.{kept_number_lem, kept_few, kept_bytes_lem, list_promise, other_promise, refused_told}
+use Rattle.listing.proofs.Assembled.{kept_number_lem, kept_few, kept_bytes_lem, list_promise, other_promise}
 use Rattle.listing.proofs.assemble.Goals as goal
 
 pub returns-in_err-read : goal.returns-in_err-read

@@ -5,9 +5,8 @@ use Prim.Native.Nat.{ℕ}
 use lib.ListN.{take}
 use Rattle.wire.proofs.Lists.{IsByte, every_of}
 use Rattle.wire.proofs.Output.{written_front}
-use Rattle.monitor.proofs.Calls.{call_accepted}
+use Rattle.monitor.proofs.Calls.{refused_told, call_accepted}
 use Rattle.listing.specs.Listing.{listing_text, lines_of, disassemble_call}
-use Rattle.listing.proofs.Assembled.{refused_told}
 use Rattle.listing.proofs.Lengths.{listing_most}
 use Rattle.listing.proofs.disassemble.Goals as goal
 
