@@ -457,8 +457,8 @@ impl Table {
         }
     }
 
-    // The slot holds a new task in place of what it held, with registers 0 and no messages; kind 0 leaves it unused, as an image's byte says
-    // it. The fields come one by one: a struct of them would be made for this call alone.
+    // The slot holds a new task in place of what it held, with registers 0 and no messages; kind 0, a byte as an image has it, leaves it
+    // unused. The fields come one by one: a struct of them would be made for this call alone.
     pub fn put_task(
         &mut self,
         slot: SlotNumber,
