@@ -23,7 +23,7 @@ use Rattle.machine.proofs.Search.{find_some, find_none}
 use Rattle.machine.proofs.Post.{deliver_more}
 use Rattle.table.specs.Change.{task_or, task_at, Used, message_at, change_slot, change, slot_with_kind, with_message}
 use Rattle.table.proofs.Change.{length_slots, change_same, change_none, change_set, change_at, change_here}
-use Rattle.effect.specs.Effects.{executed, accepts, RoomFor, GoesOn, Ready, WasDecoded}
+use Rattle.effect.specs.Effects.{executed, computed, accepts, RoomFor, GoesOn, Ready, WasDecoded}
 
 -- the place that was read, and 1 more
 pub place_up : (s : ℕ) (ss : List Slot) → change s (with_pc ((task_at ss s).pc + 1)) ss ≡ change s next ss
@@ -73,17 +73,14 @@ module _ {s : ℕ} {ss : List Slot} (ready : Ready s ss) where
   unfolding execute
   copy_done a b {x} e = alone (Copy a b) (λ t. next (with_register a x t)) (rw e)
 
-  pub add_done : (a b c : ℕ) {x y z : ℕ} → x ≡ register (task_at ss s) b → y ≡ register (task_at ss s) c → z ≡ (x + y) % 2 ^ 32
-      → change s (λ t. next (with_register a z t)) ss ≡ executed (Add a b c) s ss
+  pub add_done : (after : List Slot) (a b c : ℕ) → after ≡ change s (computed (λ x y. (x + y) % 2 ^ 32) a b c) ss → after ≡ executed (Add a b c) s ss
   unfolding execute
-  add_done a b c {z = z} e f sum = alone (Add a b c) (λ t. next (with_register a z t)) (rw (sum, e, f))
+  add_done after a b c e = e ∙ alone (Add a b c) (computed (λ x y. (x + y) % 2 ^ 32) a b c) refl
 
-  pub subtract_done : (a b c : ℕ) {x y : ℕ} → x ≡ register (task_at ss s) b → y ≡ register (task_at ss s) c → y < 2 ^ 32
-      → change s (λ t. next (with_register a ((x + (2 ^ 32 - y)) % 2 ^ 32) t)) ss ≡ executed (Subtract a b c) s ss
+  pub subtract_done : (after : List Slot) (a b c : ℕ) → after ≡ change s (computed (λ x y. (x + 2 ^ 32 - y) % 2 ^ 32) a b c) ss
+      → after ≡ executed (Subtract a b c) s ss
   unfolding execute
-  subtract_done a b c {x} {y} e f h =
-      let same : x + (2 ^ 32 - y) ≡ x + 2 ^ 32 - y = omega arith in
-      alone (Subtract a b c) (λ t. next (with_register a ((x + (2 ^ 32 - y)) % 2 ^ 32) t)) (rw (← e, ← f, same))
+  subtract_done after a b c e = e ∙ alone (Subtract a b c) (computed (λ x y. (x + 2 ^ 32 - y) % 2 ^ 32) a b c) refl
 
   pub go_done : (after : List Slot) (a : ℕ) → after ≡ change s (with_pc a) ss → after ≡ executed (Go a) s ss
   unfolding execute

@@ -1,11 +1,11 @@
 -- The slots once a task has carried out an instruction, and what that rests on.
-use Rattle.std.specs.Prelude.{◌≡◌, ℕ, ◌+◌, ◌<◌, ◌≤◌, Bool, true, false, ◌&&◌, List, length, Some}
+use Rattle.std.specs.Prelude.{◌≡◌, ℕ, ◌+◌, ◌^◌, ◌<◌, ◌≤◌, Bool, true, false, ◌&&◌, List, length, Some}
 use Rattle.label.specs.Label.{flows, join}
 use Rattle.instruction.specs.declared.Instruction.{Instruction}
 use Rattle.instruction.specs.Table.{decode}
 use Rattle.machine.specs.Limits.{highest_label}
 use Rattle.machine.specs.declared.Message.{Message}
-use Rattle.machine.specs.State.{Slot, unused, used, is_live}
+use Rattle.machine.specs.State.{Task, Slot, unused, used, is_live, register, with_register, next}
 use Rattle.machine.specs.Effect.{execute}
 use Rattle.machine.specs.Turn.{has_room, applied}
 use Rattle.table.specs.Table.{mailbox_room}
@@ -14,6 +14,14 @@ use Rattle.table.specs.Change.{task_at, Used}
 -- the slots once the task in slot s has carried out instruction i
 unfoldable pub executed : Instruction → ℕ → List Slot → List Slot
 executed i s ss = applied s (execute flows join i s (task_at ss s)) ss
+
+-- what is told of two words and a third: the third is f of the two
+abbrev pub Computes : (ℕ → ℕ → ℕ) → (ℕ → ℕ → ℕ → Type 0) → Type 0
+Computes f told = (x y z : ℕ) → x < 2 ^ 32 → y < 2 ^ 32 → told x y z → z ≡ f x y
+
+-- register a gets f of registers b and c, and the place goes up
+abbrev pub computed : (ℕ → ℕ → ℕ) → ℕ → ℕ → ℕ → Task → Task
+computed f a b c t = next (with_register a (f (register t b) (register t c)) t)
 
 -- a live task that has fewer than four messages of label l
 abbrev pub accepts : ℕ → Slot → Bool

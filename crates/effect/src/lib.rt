@@ -1,9 +1,11 @@
 // The effect of each instruction on the table, and a message's delivery. They rest on a slot that is ready for an instruction.
+// That a slot is used or ready is a clause (`GoesOn`, `Ready`) and no type: one that says it would borrow the table, which turns change.
+// Operands are plain bytes, as definitions `decode` and `execute` have them: their range comes with the instruction (`WasDecoded`).
 #![tactic(auto)]
 
-ghost use Rattle.std.specs.Prelude.{◌≡◌, ◌<◌, ◌≤◌, length, nat_lt, slice_set, is_some, IfSome};
+ghost use Rattle.std.specs.Prelude.{ℕ, ◌≡◌, ◌<◌, ◌≤◌, length, nat_lt, slice_set, is_some, IfSome};
 ghost use Rattle.label.specs.Label.{flows};
-ghost use Rattle.instruction.specs.declared.Instruction.TheVariants.{Copy, Add, Subtract, Zero, Raise, Send, Take, Poll, Sandbox, Identity, Count};
+ghost use Rattle.instruction.specs.declared.Instruction.TheVariants.{Copy, Zero, Raise, Send, Take, Poll, Sandbox, Identity, Count};
 ghost use Rattle.machine.specs.Limits.{highest_label};
 ghost use Rattle.machine.specs.State.{used, slot_at, with_register, next};
 ghost use Rattle.machine.specs.Effect.{receives, child_of, found, deliver};
@@ -11,7 +13,7 @@ ghost use Rattle.machine.specs.Turn.{perform};
 ghost use Rattle.machine.specs.Post.{has_more};
 ghost use Rattle.table.specs.Table.{slots_in};
 ghost use Rattle.table.specs.Change.{task_at, change};
-ghost use Rattle.effect.specs.Effects.{executed, accepts, RoomFor, GoesOn, Ready, WasDecoded};
+ghost use Rattle.effect.specs.Effects.{executed, computed, Computes, accepts, RoomFor, GoesOn, Ready, WasDecoded};
 
 use instruction::Instruction;
 use machine::{Kind, Message, SlotNumber};
@@ -46,24 +48,22 @@ fn copy(table: &mut Table, slot: SlotNumber, a: u8, b: u8)
     gets(table, slot, a, x);
 }
 
-// Register a gets the sum of registers b and c, wrapped to 32 bits.
-fn add(table: &mut Table, slot: SlotNumber, a: u8, b: u8, c: u8)
-    requires { Ready slot.number (slots_in table.old) × WasDecoded (Add a b c) }
-    ensures { slots_in table.new ≡ executed (Add a b c) slot.number (slots_in table.old) }
+// Register a gets what `operation` makes of registers b and c.
+fn compute<F: Fn(u32, u32) -> u32>(
+    table: &mut Table,
+    slot: SlotNumber,
+    a: u8,
+    b: u8,
+    c: u8,
+    operation: F,
+)
+    requires { GoesOn slot.number (slots_in table.old) × (a < 8) × (b < 8) × (c < 8) × F.IsAlwaysCallable operation }
+    ensures { (f : ℕ → ℕ → ℕ) → Computes f (F.post operation)
+        → slots_in table.new ≡ change slot.number (computed f a b c) (slots_in table.old) }
 {
     let x = table.register(slot, b as usize);
     let y = table.register(slot, c as usize);
-    gets(table, slot, a, x.wrapping_add(y));
-}
-
-// Register a gets register b less register c, wrapped to 32 bits.
-fn subtract(table: &mut Table, slot: SlotNumber, a: u8, b: u8, c: u8)
-    requires { Ready slot.number (slots_in table.old) × WasDecoded (Subtract a b c) }
-    ensures { slots_in table.new ≡ executed (Subtract a b c) slot.number (slots_in table.old) }
-{
-    let x = table.register(slot, b as usize);
-    let y = table.register(slot, c as usize);
-    gets(table, slot, a, x.wrapping_sub(y));
+    gets(table, slot, a, operation(x, y));
 }
 
 // The place becomes b if register a is 0.
@@ -198,10 +198,9 @@ fn poll(table: &mut Table, slot: SlotNumber, a: u8, b: u8, c: u8)
     requires { Ready slot.number (slots_in table.old) × WasDecoded (Poll a b c) }
     ensures { slots_in table.new ≡ executed (Poll a b c) slot.number (slots_in table.old) }
 {
-    if take(table, slot, a, b) {
-        return;
+    if !take(table, slot, a, b) {
+        table.set_pc(slot, c as u32);
     }
-    table.set_pc(slot, c as u32);
 }
 
 // Register a gets how many messages are receivable.
@@ -217,6 +216,7 @@ fn count(table: &mut Table, slot: SlotNumber, a: u8)
 // ---- new tasks
 
 // The new task of a sandbox in slot `child`, with the parent's label and clearance, and the parent's slot in register 0.
+// Its values come one by one, as `put_task` takes them: a struct of them would be made for this call alone.
 fn spawn(
     table: &mut Table,
     child: SlotNumber,
@@ -274,8 +274,8 @@ pub fn execute(table: &mut Table, slot: SlotNumber, i: Instruction)
         Instruction::End => table.set_kind(slot, Kind::Done as u8),
         Instruction::Set(a, b, c) => gets(table, slot, a, (b as u32) * 256 + (c as u32)),
         Instruction::Copy(a, b) => copy(table, slot, a, b),
-        Instruction::Add(a, b, c) => add(table, slot, a, b, c),
-        Instruction::Subtract(a, b, c) => subtract(table, slot, a, b, c),
+        Instruction::Add(a, b, c) => compute(table, slot, a, b, c, |x, y| x.wrapping_add(y)),
+        Instruction::Subtract(a, b, c) => compute(table, slot, a, b, c, |x, y| x.wrapping_sub(y)),
         Instruction::Go(a) => table.set_pc(slot, a as u32),
         Instruction::Zero(a, b) => zero(table, slot, a, b),
         Instruction::Raise(a) => raise(table, slot, a),

@@ -5,7 +5,6 @@ use mathlib.Core.Path.{◌≡◌, refl, ap, ◌∙◌}
 use mathlib.Core.Bool.{false, not}
 use mathlib.Core.List.{List}
 use native.Mathlib.Decide.{ℕ_discrete, dec_lt}
-use native.Mathlib.Numerals.{add-one}
 use native.Mathlib.Omega.{arith}
 use lib.ListN.{get_or-eq_default}
 use Rattle.wire.proofs.Lists.{first_low}
@@ -72,16 +71,6 @@ module _ (s : State) (low : s.turn_slot ≤ 15) where
       let ih = turns_idle n (omega arith) (λ j a b. idle j a (omega arith)) in
       let more = next_idle n (omega arith) (idle (s.turn_slot + n) (omega arith) (omega arith)) in
       (more.0 ∙ ap (turn_by flows join) ih.0, rw (← ih.0, more.1, ih.1))
-
--- ---- the bounds, slot by slot
-
-pub top_none : (ss : List Slot) → 0 ≡ top_of 0 ss
-unfolding top_of
-top_none ss = refl
-
-pub top_next : (n : ℕ) (ss : List Slot) {before : ℕ} → before ≡ top_of n ss → top_behind n before (slot_at ss n) ≡ top_of (n + 1) ss
-unfolding top_of
-top_next n ss e = rw (add-one, e)
 
 -- ---- the bounds of a valid state
 

@@ -1,4 +1,6 @@
 // What is looked for in a mailbox: the messages of a label or those that flow to one, as a set, and what the set tells.
+// A used slot is a clause and no type, which would borrow the table that turns change. A label is a byte, as in definition `Message`, so
+// that it is at most 15 is asked where it is looked for.
 #![tactic(auto)]
 
 ghost use Rattle.std.specs.Prelude.{ℕ, Bool, ◌<◌, ◌≤◌, ◌≡◌, cond, eqb};

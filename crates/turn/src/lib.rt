@@ -35,23 +35,24 @@ fn act(table: &mut Table, program: &[u8], slot: SlotNumber)
 // ---- the slots that can ever be used: ends, and no Option of a slot's number, since 16 may be one and definitions `bottom_of` and
 // `top_of` say 16 and 0 where no slot is used
 
-// The lowest used slot, and 16 where there is none.
+// The lowest used slot, and 16 where there is none: a bound too, so that a round's `max` and `min` need no test.
 fn bottom(table: &Table) -> u8
     ensures { result ≡ bottom_of (slots_in table.now) }
 {
-    for number in 0..16 {
-        if table.is_used(SlotNumber { number }) {
-            return number as u8;
-        }
-    }
-    16
+    let lowest = (0..16).find(
+        |&number|
+            requires { number < 16 }
+        { table.is_used(SlotNumber { number }) },
+    );
+    lowest.unwrap_or(16) as u8
 }
 
 // The slot behind a slot and its spare where it is used, else `before`.
-fn top_behind(table: &Table, slot: SlotNumber, before: u8) -> u8
-    requires { Within 0 16 (slots_in table.now) }
-    ensures { result ≡ top_behind slot.number before (slot_at (slots_in table.now) slot.number) }
+fn top_behind(table: &Table, number: usize, before: u8) -> u8
+    requires { (number < 16) × Within 0 16 (slots_in table.now) }
+    ensures { result ≡ top_behind number before (slot_at (slots_in table.now) number) }
 {
+    let slot = SlotNumber { number };
     if table.is_used(slot) {
         slot.number as u8 + table.spare(slot) + 1
     } else {
@@ -64,11 +65,7 @@ fn top(table: &Table) -> u8
     requires { Within 0 16 (slots_in table.now) }
     ensures { result ≡ top_of 16 (slots_in table.now) }
 {
-    let mut top = 0;
-    for number in 0..16 {
-        top = top_behind(table, SlotNumber { number }, top);
-    }
-    top
+    (0..16).fold(0, |before, number| top_behind(table, number, before))
 }
 
 // ---- rounds
@@ -87,7 +84,7 @@ fn round_end(slot: u8, left: u64) -> u8
 
 // The turns of the slots from `first` up to `end`, each followed by the next: how many met a live task. The slots below `bottom` and
 // from `top` on are unused and stay so, and are passed over. It counts the slots without a live task, so that a live task's turn counts
-// nothing.
+// nothing. The bounds come one by one: two are new in each round, so a struct of the four would be made for each call.
 fn round(table: &mut Table, program: &[u8], first: u8, end: u8, bottom: u8, top: u8) -> u64
     requires { Valid (running program.now first table.old) × (first ≤ end) × (end ≤ 16) × Within bottom top (slots_in table.old) }
     ensures { (result ≡ busy (end - first) (running program.now first table.old))
