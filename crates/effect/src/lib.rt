@@ -164,7 +164,10 @@ fn send(table: &mut Table, slot: SlotNumber, a: u8, b: u8, c: u8)
 
 // Message i goes: its value into register a, then its sender into register b.
 fn take_message(table: &mut Table, slot: SlotNumber, i: usize, a: u8, b: u8)
-    requires { GoesOn slot.number (slots_in table.old) × (i < length (task_at (slots_in table.old) slot.number).mailbox) × (a < 8) × (b < 8) }
+    requires { GoesOn slot.number (slots_in table.old)
+        × (i < length (task_at (slots_in table.old) slot.number).mailbox)
+        × (a < 8)
+        × (b < 8) }
     ensures { slots_in table.new ≡ change slot.number (receives a b i) (slots_in table.old) }
 {
     let value = table.message_value(slot, i);

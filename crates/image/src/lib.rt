@@ -32,7 +32,7 @@ pub const MESSAGE_SIZE: usize = 6;
 // The sender of a message that the host posted, and the highest of all.
 pub const HOST: u8 = 16;
 
-// How many bytes the clearance has in an image of this version.
+// How many bytes the clearance has in an image of this version, a number and no enum: all that is read here is told of every first byte.
 pub fn clearance_width(version: u8) -> usize
     ensures { (result ≡ clearance_width version) × (result ≤ 1) }
 {

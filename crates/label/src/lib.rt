@@ -11,7 +11,7 @@ pub fn is_subset(k: u8, m: u8) -> bool
     k & m == k
 }
 
-// Whether label k flows to label m.
+// Whether label k flows to label m: the same test under the name that the claims give it.
 pub fn flows(k: u8, m: u8) -> bool
     ensures { result ≡ flows k m }
 {

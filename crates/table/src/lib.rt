@@ -1,6 +1,7 @@
 // The working storage of a call: sixteen slots of 84 words each, lent to the call and touched by slot and field only.
 // Nothing is tested here that a caller knows: that a slot is used, a register one of the eight, a message in the mailbox, and a label one
-// of four bits.
+// of four bits. These are asked for and are no types: one that says of a slot that it is used, or of a message that it is there, would
+// borrow the table, which a turn changes; one for a register, a plane, a place in the ring or a label would be made anew at each use.
 #![tactic(auto)]
 
 ghost use Rattle.std.specs.Prelude.{◌+◌, ◌*◌, ◌<◌, ◌≤◌, ◌%◌, ◌≡◌, not, length, get_or, set, replicate};
@@ -23,7 +24,7 @@ const SLOT_WORDS: usize = 84;
 // The words of the whole table.
 const WORDS: usize = SLOTS * SLOT_WORDS;
 
-// The words of the sixteen slots.
+// The words of the sixteen slots: one array of fixed size, in which word i of each slot stands beside word i of the others.
 #[derive(Drop)]
 pub struct Table {
     words: [u64; WORDS],
@@ -53,7 +54,7 @@ const PLANES: usize = 16;
 
 const RING: usize = 20;
 
-// The low byte of a word.
+// The low byte of a word. It and `four` are a remainder each, which a form over the width would only hide.
 fn byte(x: u64) -> u8
     ensures { result ≡ x % 256 }
 {
@@ -96,7 +97,6 @@ impl Table {
     // ---- reading
 
     // Each field has a function of its own, since what it promises names the field.
-    // A used slot and a message that is there are asked for and are no types: those would borrow the table, which a turn changes.
 
     // The kind of the task in the slot, 0 where the slot is unused: a number, as in `Task` (machine/specs/State.antt) and in the image.
     #[tactic(auto, using(crate::proofs::Slots::kind_read))]
@@ -232,9 +232,10 @@ impl Table {
         four(self.mail(slot, i))
     }
 
-    // ---- changing a field
+    // ---- changing a field: each has a function of its own here too
 
-    // The task in the slot gets kind x; kind 0 takes it away. The slot has to be used: in an unused one a kind would be a task.
+    // The task in the slot gets kind x; kind 0 takes it away. The slot has to be used: in an unused one a kind would be a task. x is a byte
+    // and no `Kind`, since the promise of `set_kind` holds of every byte.
     pub fn set_kind(&mut self, slot: SlotNumber, x: u8)
         requires { Used slot.number (slots_in self.old) }
         ensures { slots_in self.new ≡ set (slots_in self.old) slot.number (slot_with_kind x (slot_at (slots_in self.old) slot.number)) }
@@ -333,8 +334,6 @@ impl Table {
     {
         self.change_planes(slot, move |plane, _| planes::without_bit(plane, k));
     }
-
-    // Places below 64 are asked for and are no type, which would be made anew at each step.
 
     // The word of message `from` is written over that of message `to`, both counted from a start of the ring.
     fn move_mail(&mut self, slot: SlotNumber, start: usize, from: usize, to: usize)
@@ -458,8 +457,8 @@ impl Table {
         }
     }
 
-    // The slot holds a new task in place of what it held, with registers 0 and no messages; kind 0 leaves it unused. The fields come one by
-    // one: a struct of them would be made for this call alone.
+    // The slot holds a new task in place of what it held, with registers 0 and no messages; kind 0, a byte as an image has it, leaves it
+    // unused. The fields come one by one: a struct of them would be made for this call alone.
     pub fn put_task(
         &mut self,
         slot: SlotNumber,

@@ -32,7 +32,8 @@ fn act(table: &mut Table, program: &[u8], slot: SlotNumber)
     }
 }
 
-// ---- the slots that can ever be used
+// ---- the slots that can ever be used: ends, and no Option of a slot's number, since 16 may be one and definitions `bottom_of` and
+// `top_of` say 16 and 0 where no slot is used
 
 // The lowest used slot, and 16 where there is none.
 fn bottom(table: &Table) -> u8
@@ -85,7 +86,8 @@ fn round_end(slot: u8, left: u64) -> u8
 }
 
 // The turns of the slots from `first` up to `end`, each followed by the next: how many met a live task. The slots below `bottom` and
-// from `top` on are unused and stay so, and are passed over. It counts the slots without a live task, so that a live task's turn counts nothing.
+// from `top` on are unused and stay so, and are passed over. It counts the slots without a live task, so that a live task's turn counts
+// nothing.
 fn round(table: &mut Table, program: &[u8], first: u8, end: u8, bottom: u8, top: u8) -> u64
     requires { Valid (running program.now first table.old) × (first ≤ end) × (end ≤ 16) × Within bottom top (slots_in table.old) }
     ensures { (result ≡ busy (end - first) (running program.now first table.old))
@@ -121,7 +123,8 @@ pub struct RunAnswer {
     pub busy: u64,
 }
 
-// n turns of the tasks in the table, the first that of slot `first`.
+// n turns of the tasks in the table, the first that of slot `first`. A round takes as many turns as it has slots, so no `for` counts
+// what is left.
 pub fn turns(table: &mut Table, program: &[u8], first: u8, n: u64) -> RunAnswer
     requires { Valid (running program.now first table.old) }
     ensures { (result ≡ run_told n (running program.now first table.old))

@@ -48,7 +48,7 @@ pub fn decode_u16(s: &[u8]) -> usize
     }
 }
 
-// The number in the first four bytes of s.
+// The number in the first four bytes of s. It asks for them and pads nothing, so it shares no more with `decode_u16` than `from_be_bytes`.
 pub fn decode_u32(s: &[u8]) -> u32
     requires { 4 ≤ length s.now }
     ensures { result ≡ decode_number 4 s.now }

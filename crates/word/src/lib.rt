@@ -10,7 +10,7 @@ ghost use Rattle.word.specs.Inner.{code_found};
 // The number of words: their codes are 0 to 13.
 const WORDS: u8 = 14;
 
-// The word of a code, no bytes where the table has none.
+// The word of a code, no bytes where the table has none, as `word_of` says.
 #[tactic(auto, unfolding(crate::specs::Word::word_of, wire::specs::Lists::tabulate, text::specs::Text::ascii))]
 fn word(code: u8) -> &'static [u8]
     ensures { result.now ≡ word_of code }
