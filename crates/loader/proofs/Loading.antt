@@ -1,18 +1,17 @@
 -- The steps of loading make the task of each record and the slots of the image, and an accepted image can be loaded.
-use Prim.Native.Nat.{ℕ, zero, suc, ◌+◌, ◌-◌, ◌*◌, ◌/◌, ◌%◌, ◌≤◌, ◌<◌}
+use Prim.Native.Nat.{ℕ, zero, suc, ◌+◌, ◌-◌, ◌*◌, ◌/◌, ◌≤◌, ◌<◌}
 use mathlib.Core.Path.{◌≡◌, refl, sym, ap, ◌∙◌}
-use mathlib.Core.List.{List, [], ◌++◌, append_assoc, append-nil}
+use mathlib.Core.List.{List, [], ◌++◌, append-nil}
 use native.Mathlib.Numerals.{add-one}
 use native.Mathlib.Omega.{arith}
 use borrow.Author.Tests.{ne_eqb}
 use lib.ListN.{length, get_or, take, drop, set, length-set, length-drop, length-append, drop_of_length-le}
 use lib.Seq.{take_all, drop_at, drop-cons, drop-drop, set_at, get_or_at, get_or-drop, get_or-set_same, append_snoc}
-use Rattle.std.proofs.lemmas.List.{get_or_append_left, get_or-append-add}
+use Rattle.std.proofs.lemmas.List.{get_or_append_left}
 use denote.Ref.{Bor}
 use Rattle.std.specs.Prelude.{Some}
 use Rattle.std.specs.declared.slice.ChunksExact.{ChunksExact}
 use Rattle.std.specs.Slice.Iter.{chunks_exact_rest, chunks_exact_size, chunks_exact_steps}
-use Rattle.std.specs.Slice.Exact.{chunks_exact_steps_back}
 use Rattle.wire.specs.Lists.{Bytes}
 use Rattle.wire.specs.Numbers.{decode_number}
 use Rattle.wire.proofs.Lists.{every_at, every_weaken}
@@ -77,42 +76,6 @@ module _ (b : List ℕ) (s t : ChunksExact ℕ) (x : Bor (List ℕ)) (size : chu
         value =
             number_front 4 2 x.now left (omega arith) ∙ ap (λ (ys : List ℕ). decode_number 4 (drop 2 ys)) (sym e)
             ∙ ap (decode_number 4) (drop-drop 2 (6 * k) b) ∙ sym m.value;
-      }
-
--- from the last message to the first: what is left of b, and what was read behind it
-pub record ChunksLeft (b left : List ℕ) : Type 0 where
-  pub behind : List ℕ
-  pub whole : b ≡ left ++ behind
-
--- the last chunk of what is left, and the bytes behind it that fill none
-pub record LastChunk (b left x rest : List ℕ) : Type 0 where
-  pub count : length left / 6 ≡ length rest / 6 + 1
-  pub there : length left / 6 ≤ length b / 6
-  pub label : get_or x 0 0 ≡ get_or b (6 * (length rest / 6)) 0
-  pub next : ChunksLeft b rest
-
-pub chunks_all : (b : List ℕ) → ChunksLeft b b
-chunks_all b = record { behind = []; whole = sym (append-nil b) }
-
-module _ (b : List ℕ) (s t : ChunksExact ℕ) (x : Bor (List ℕ)) (size : chunks_exact_size s ≡ 6) where
-  pub last_chunk : ChunksLeft b (chunks_exact_rest s) → chunks_exact_steps_back s (Some x) t → LastChunk b (chunks_exact_rest s) x.now (chunks_exact_rest t)
-  last_chunk c step =
-      let left = chunks_exact_rest s in
-      let rest = chunks_exact_rest t in
-      let after = step.2.0 in
-      let six : length x.now ≡ 6 = step.2.2 ∙ size in
-      let few : length after ≡ length left % 6 = rw size at step.2.3 in
-      let behind = x.now ++ (after ++ c.behind) in
-      let whole : b ≡ rest ++ behind
-      = c.whole ∙ ap (λ (ys : List ℕ). ys ++ c.behind) step.2.1 ∙ append_assoc (rest ++ x.now) after c.behind ∙ append_assoc rest x.now (after ++ c.behind) in
-      let long : length left ≡ length rest + 6 + length left % 6
-      = ap length step.2.1 ∙ rw (length-append (rest ++ x.now) after, length-append rest x.now, six, few) in
-      let at : 6 * (length rest / 6) ≡ length rest + 0 = omega arith in
-      record {
-        count = omega arith;
-        there = omega (arith, ap length c.whole, length-append left c.behind);
-        label = sym (rw (whole, at, get_or-append-add rest behind 0 0) (get_or_append_left x.now (after ++ c.behind) 0 0 (omega arith)));
-        next = record { behind = behind; whole = whole };
       }
 
 -- ---- one register or message after another
