@@ -12,6 +12,7 @@ ghost use Rattle.table.specs.Table.{slots_in};
 ghost use Rattle.snapshot.specs.Writing.{snapshot_bytes};
 ghost use Rattle.monitor.specs.Calls.{told, told_post, output_answer, CallPromise, rewrite_call, turns_call, PostPromise, view_call};
 
+use machine::Message;
 use monitor::{Posted, Written};
 use refusal::Refusal;
 use table::Table;
@@ -39,7 +40,7 @@ pub fn record_extent(image: &[u8], slot: u32) -> image::Extent
     judge::record_extent(image, slot as usize)
 }
 
-// Puts the tasks of an image into the table, if the image is accepted.
+// Puts the tasks of an image into the table, if the image is accepted. The table is lent, so that no call copies it.
 fn load(table: &mut Table, image: &[u8]) -> Result<(), Refusal>
     ensures { (number result ≡ image_number image.now) × OnOk result (slots_in table.new ≡ (state_of image.now).slots) }
 {
@@ -68,11 +69,11 @@ fn write_answer(
 pub fn view(image: &[u8], observer: u32, out: &mut [u8]) -> Result<Written, Refusal>
     ensures { CallPromise (view_call observer image.now) out.old (told result) out.new }
 {
-    let label = monitor::check_observer(observer)?;
-    let mut table: Table = [0; table::WORDS];
+    let observer = monitor::check_observer(observer)?;
+    let mut table = Table::new();
     load(&mut table, image)?;
     let turn = image::turn_slot(image);
-    write_answer(out, &table, image, turn, label, 0)
+    write_answer(out, &table, image, turn, observer, 0)
 }
 
 // Writes an image again as it was read: for label 15 the view is the image.
@@ -100,7 +101,7 @@ pub fn turns(image: &[u8], count: u64, out: &mut [u8]) -> Result<Written, Refusa
     ensures { CallPromise (turns_call count image.now) out.old (told result) out.new }
 {
     check_count(count)?;
-    let mut table: Table = [0; table::WORDS];
+    let mut table = Table::new();
     load(&mut table, image)?;
     let turn = image::turn_slot(image);
     let ran = turn::turns(&mut table, image::program(image), turn, count);
@@ -131,9 +132,14 @@ pub fn post(
     ensures { PostPromise slot label value image.now out.old (told_post result) out.new }
 {
     check_post(slot, label)?;
-    let mut table: Table = [0; table::WORDS];
+    let mut table = Table::new();
     load(&mut table, image)?;
-    let delivered = effect::deliver(&mut table, slot, label as u8, image::HOST, value);
+    let message = Message {
+        label: label as u8,
+        sender: image::HOST,
+        value,
+    };
+    let delivered = effect::deliver(&mut table, slot, message);
     let turn = image::turn_slot(image);
     let written = write_answer(out, &table, image, turn, 15, 0)?;
     Ok(Posted { written, delivered })

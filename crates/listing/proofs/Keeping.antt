@@ -1,19 +1,20 @@
 -- Laws of the lines that are kept: one more behind the others, and the number and the bytes of them all.
-use Prim.Native.Nat.{ℕ, ◌+◌, ◌*◌, ◌/◌, ◌<◌, ◌≤◌, min}
+use Prim.Native.Nat.{ℕ, ◌+◌, ◌*◌, ◌/◌, ◌<◌, ◌≤◌}
 use mathlib.Core.Logic.{dite}
 use mathlib.Core.Path.{◌≡◌, refl, sym, ap, ◌∙◌}
 use mathlib.Core.Bool.{Bool, true, false, ◌&&◌, and-true, and-false}
 use mathlib.Core.List.{List, [], ◌∷◌, ◌++◌, append-nil, append_assoc}
 use Rattle.std.specs.Prelude.{Some, None}
+use Rattle.std.specs.Bool.{then_some}
 use native.Mathlib.Decide.{dec_lt}
 use native.Mathlib.Omega.{arith}
-use borrow.Author.Tests.{leb-true, lt-ltb, le-ltb, le-leb, lt-leb}
-use lib.Dec.{leb, ltb}
+use borrow.Author.Tests.{lt-ltb, le-ltb}
+use lib.Dec.{leb}
 use lib.ListN.{length, take, drop, length-append, length-drop}
 use lib.Seq.{length-take-le, take_at}
 use Rattle.wire.specs.Lists.{Every, all}
 use Rattle.wire.specs.Items.{encode_items}
-use Rattle.wire.proofs.Lists.{split, and_both, every_append, all_append, length_nil}
+use Rattle.wire.proofs.Lists.{split, every_append, all_append, length_nil}
 use Rattle.wire.proofs.Items.{items_append}
 use Rattle.listing.specs.declared.ReadLine.{ReadLine}
 use Rattle.listing.specs.Listing.{Line, line_text, listing_text, Spells, is_bytes, line_bytes, program_bytes}
@@ -45,16 +46,6 @@ so_far_none text program = record {
   front = λ e h. refl;
   same = refl;
 }
-
--- a number that is told as at most 256 is a byte where the number is
-below : (x : ℕ) → ltb (min x 256) 256 ≡ leb x 255
-below x =
-    dite (dec_lt x 256)
-    (λ h. let same : min x 256 ≡ x = omega arith in rw (same, lt-ltb x 256 h, le-leb x 255 (omega arith)) refl)
-    (λ h. let most : min x 256 ≡ 256 = omega arith in rw (most, lt-leb x 255 (omega arith)) refl)
-
-byte_told : (x : ℕ) → leb x 255 ≡ true → min x 256 ≡ x
-byte_told x e = omega (arith, leb-true x 255 e)
 
 length_kept : (program line : List ℕ) (lines : ℕ) → length line ≡ 4 → length (kept lines line program) ≡ length program
 length_kept program line lines four =
@@ -125,14 +116,20 @@ module _ {text program₀ program rest : List ℕ} {lines : ℕ} {bytes : Bool} 
     same = same ∙ h.same;
   }
 
-  -- the tests of the code are those of the line
-  tests : (ltb r.a 256 && ltb r.b 256 && ltb r.c 256) ≡ is_bytes l
-  tests = rw (told, below, below, below) refl
+  -- the bytes that are told are the line's
+  bytes_told : told_bytes r ≡ then_some (is_bytes l) (line_bytes l)
+  bytes_told =
+      rw told
+      (split (leb l.a 255)
+      (λ a. split (leb l.b 255)
+      (λ b. split (leb l.c 255) (λ c. rw (a, b, c) refl) (λ c. rw (a, b, c) refl))
+      (λ b. rw (a, b) refl))
+      (λ a. rw a refl))
 
   -- a number of the line is above 255
   pub so_far_above : told_bytes r ≡ None → SoFar text program₀ program (drop r.length rest) (lines + 1) false
   so_far_above none =
-      let above : is_bytes l ≡ false = split (is_bytes l) (λ t. let some = rw (tests, t) at none in cc) (λ t. t) in
+      let above : is_bytes l ≡ false = split (is_bytes l) (λ t. let some = rw (bytes_told, t) at none in cc) (λ t. t) in
       more program false refl (rw (above, and-false) refl) (λ z. cc)
 
   -- its four bytes are kept
@@ -141,12 +138,9 @@ module _ {text program₀ program rest : List ℕ} {lines : ℕ} {bytes : Bool} 
     passed =
         split (is_bytes l)
         (λ t.
-        let first : Some (r.code ∷ r.a ∷ r.b ∷ r.c ∷ []) ≡ Some line = rw (tests, t) at some in
-        let same : line ≡ r.code ∷ r.a ∷ r.b ∷ r.c ∷ [] = cc in
-        let abc = and_both (leb l.a 255 && leb l.b 255) (leb l.c 255) t in
-        let ab = and_both (leb l.a 255) (leb l.b 255) abc.0 in
-        (t, same ∙ rw (told, byte_told l.a ab.0, byte_told l.b ab.1, byte_told l.c abc.1) refl))
-        (λ t. let none : None ≡ Some line = rw (tests, t) at some in cc)
+        let first : Some (line_bytes l) ≡ Some line = rw (bytes_told, t) at some in
+        (t, cc))
+        (λ t. let none : None ≡ Some line = rw (bytes_told, t) at some in cc)
 
     more_front : bytes ≡ true → lines + 1 ≤ length (kept lines line program) / 4 → take (4 * (lines + 1)) (kept lines line program) ≡ program_bytes (h.list ++ (l ∷ []))
     unfolding program_bytes encode_items

@@ -53,15 +53,15 @@ digits_most blank n x h e = decimal_width 0 x (omega (arith, within blank n x e)
 abbrev row_width : Row → ℕ
 row_width r = length (ascii r.word) + width r.a + width r.b + width r.c
 
-legal_if_lem : (t : Bool) (r : Row) (a b c : ℕ) → is_legal (then_some t (r.form a b c)) ≡ true → t ≡ true
-legal_if_lem true r a b c e = refl
-legal_if_lem false r a b c e = cc
+legal_then_some : (t : Bool) (r : Row) (a b c : ℕ) → is_legal (then_some t (r.form a b c)) ≡ true → t ≡ true
+legal_then_some true r a b c e = refl
+legal_then_some false r a b c e = cc
 
 module _ (n code a b c : ℕ) (ha : a < 256) (hb : b < 256) (hc : c < 256) where
   row_most : (r : Row) → leb (row_width r) 13 ≡ true → is_legal (decode_by n a b c r) ≡ true
       → length (ascii r.word) + length (decimal a) + length (decimal b) + length (decimal c) ≤ 13
   row_most r w e =
-      let t = legal_if_lem (admits r.a n a && admits r.b n b && admits r.c n c) r a b c e in
+      let t = legal_then_some (admits r.a n a && admits r.b n b && admits r.c n c) r a b c e in
       let abc = and_both (admits r.a n a && admits r.b n b) (admits r.c n c) t in
       let ab = and_both (admits r.a n a) (admits r.b n b) abc.0 in
       omega (

@@ -1,17 +1,17 @@
 -- Definitions for contracts of functions that are no calls, which no claim and no call's promise reaches: what is read at the front of
 -- a text, and what is kept of a text that was read.
-use Rattle.std.specs.Prelude.{ℕ, ◌+◌, ◌*◌, ◌/◌, ◌≤◌, min, ◌≡◌, Bool, true, Option, Some, None, Result, Ok, Err, cond, ◌&&◌, List, [], ◌∷◌, ◌++◌, leb, ltb, length, take, drop}
+use Rattle.std.specs.Prelude.{ℕ, ◌+◌, ◌*◌, ◌/◌, ◌≤◌, ◌≡◌, Bool, true, Option, Some, None, Result, Ok, Err, cond, ◌&&◌, List, [], ◌∷◌, ◌++◌, leb, ltb, length, take, drop}
 use Rattle.refusal.specs.declared.Refusal.{Refusal}
 use Rattle.refusal.specs.declared.Refusal.TheVariants.{Text}
 use Rattle.wire.specs.Lists.{all}
-use Rattle.text.specs.Inner.{ahead, number_length, number_value}
+use Rattle.text.specs.Inner.{ahead, byte_value, number_length, number_value}
 use Rattle.instruction.specs.Table.{table}
 use Rattle.instruction.specs.Program.{count}
 use Rattle.word.specs.Inner.{code_of}
 use Rattle.image.specs.Refusal.{◌then◌, unless, instructions_number}
 use Rattle.listing.specs.declared.ReadLine.{ReadLine}
 use Rattle.listing.specs.declared.ReadText.{ReadText}
-use Rattle.std.specs.Bool.{then_some}
+use Rattle.std.specs.Option.{option_and_then, option_map}
 use Rattle.listing.specs.Listing.{Line, line, Spells, is_bytes, program_bytes}
 
 -- ---- a line
@@ -48,19 +48,25 @@ line_length b =
     + number_length 10 (behind_number (behind_number (behind_word b))))
     0
 
--- the line that the code tells there: each number 256 where it is above 255, and how many bytes it has
+-- the line that the code tells there: each number as a byte, and how many bytes it has
 abbrev pub told_line : List ℕ → ReadLine
 told_line b =
-    record { code = (line_at b).code; a = min (line_at b).a 256; b = min (line_at b).b 256; c = min (line_at b).c 256; length = line_length b }
+    record {
+      code = (line_at b).code;
+      a = byte_value (line_at b).a;
+      b = byte_value (line_at b).b;
+      c = byte_value (line_at b).c;
+      length = line_length b;
+    }
 
 unfoldable pub read_line : List ℕ → Option ReadLine
 read_line b = cond (has_line b) (Some (told_line b)) None
 
 -- ---- what is kept of lines: four bytes each, where all their numbers are bytes
 
--- the bytes of a line that was read
+-- the bytes of a line that was read, none where a number is none
 abbrev pub told_bytes : ReadLine → Option (List ℕ)
-told_bytes l = then_some (ltb l.a 256 && ltb l.b 256 && ltb l.c 256) (l.code ∷ l.a ∷ l.b ∷ l.c ∷ [])
+told_bytes l = option_and_then (λ a. option_and_then (λ b. option_map (λ c. l.code ∷ a ∷ b ∷ c ∷ []) l.c) l.b) l.a
 
 -- a program once the bytes of a line are kept behind `lines` others, where there is room for them
 abbrev pub kept : ℕ → List ℕ → List ℕ → List ℕ

@@ -20,13 +20,13 @@ pub const LISTING_MAX: usize = 4352;
 
 // ---- the writer
 
-// A line that was read: its code, its numbers, each 256 where it is above 255, and how many bytes it has.
+// A line that was read: its code, its numbers, each none where it is above 255, and how many bytes it has.
 #[derive(Clone, Copy)]
 struct ReadLine {
     code: u8,
-    a: usize,
-    b: usize,
-    c: usize,
+    a: Option<u8>,
+    b: Option<u8>,
+    c: Option<u8>,
     length: usize,
 }
 
@@ -56,10 +56,7 @@ fn read_line(s: &[u8]) -> Option<ReadLine>
 fn line_bytes(line: ReadLine) -> Option<[u8; 4]>
     ensures { result ≡ told_bytes line }
 {
-    let a = u8::try_from(line.a).ok()?;
-    let b = u8::try_from(line.b).ok()?;
-    let c = u8::try_from(line.c).ok()?;
-    Some([line.code, a, b, c])
+    Some([line.code, line.a?, line.b?, line.c?])
 }
 
 // Keeps the four bytes of a line behind those of `lines` others, where the program has room for them.
@@ -157,6 +154,7 @@ fn put_lines(out: &mut [u8], program: &[u8]) -> usize
         × (out.new ≡ overwrite (listing_text (lines_of program.now)) out.old) }
 {
     let mut at: usize = 0;
+    // One loop for all lists that are written would take each item's promise as a predicate of its closure, which is no plainer.
     for instruction in program.chunks_exact(4) {
         at += put_line(&mut out[at..], instruction);
     }

@@ -6,8 +6,10 @@
 ghost use Rattle.std.specs.Prelude.{ℕ, ◌<◌, ◌≤◌, ◌≡◌, List, length, OnOk, OnErr};
 ghost use Rattle.std.specs.Io.KnownBytes.{Appends};
 
+use machine::SlotNumber;
 use std::io;
 use std::io::Write;
+use table::Table;
 
 // More than any image has, so that a longer input is seen to be longer.
 const READ_MAX: usize = 8192;
@@ -15,17 +17,16 @@ const READ_MAX: usize = 8192;
 // Two bytes for each label.
 const TOLD: usize = 32;
 
-// Prints slot s: for each label 1 where there is room for one more message, else 0, and then how many were looked at. Both are 0 in
+// Prints a slot: for each label 1 where there is room for one more message, else 0, and then how many were looked at. Both are 0 in
 // an unused slot. Where a write fails, a front of these.
-fn print_slot<W: Write>(target: &mut W, table: &table::Table, s: usize) -> io::Result<()>
-    requires { s < 16 }
+fn print_slot<W: Write>(target: &mut W, table: &Table, slot: SlotNumber) -> io::Result<()>
     ensures whole { OnOk result ((bytes : List ℕ) × (length bytes ≡ 32) × Appends (W.contents target.old) (W.contents target.new) bytes) }
     ensures failed { OnErr result ((bytes : List ℕ) × (length bytes ≤ 32) × Appends (W.contents target.old) (W.contents target.new) bytes) }
 {
     let mut told: [u8; TOLD] = [0; TOLD];
-    if table::kind(table, s) != 0 {
+    if table.is_used(slot) {
         for label in 0..16 {
-            let looked = search::look(table, s, label as u8);
+            let looked = search::look(table, slot, label as u8);
             told[2 * label] = looked.room as u8;
             // at most 64, of which the remainder spares a proof
             told[2 * label + 1] = (looked.looked % 256) as u8;
@@ -38,11 +39,11 @@ fn main(rt: HostRuntime) -> io::Result<()> {
     let mut bytes: [u8; READ_MAX] = [0; READ_MAX];
     let n = streams::read_full(&mut rt.stdin(), &mut bytes)?;
     let image = &bytes[..n];
-    if judge::number(image) == 0 {
-        let mut table: table::Table = [0; table::WORDS];
+    if judge::check(image).is_ok() {
+        let mut table = Table::new();
         loader::load(&mut table, image);
-        for s in 0..16 {
-            print_slot(&mut rt.stdout(), &table, s)?;
+        for number in 0..16 {
+            print_slot(&mut rt.stdout(), &table, SlotNumber { number })?;
         }
     }
     Ok(())

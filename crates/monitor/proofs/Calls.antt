@@ -1,7 +1,7 @@
 -- Laws of a call: when it is accepted, what it then tells and writes, and which numbers it may tell.
 use Prim.Native.Nat.{ℕ, zero, suc, ◌<◌, ◌≤◌}
 use mathlib.Core.Logic.{◌≢◌}
-use mathlib.Core.Path.{◌≡◌, refl, sym, ap, ap₂, ◌∙◌}
+use mathlib.Core.Path.{◌≡◌, refl, sym, ◌∙◌}
 use mathlib.Core.Bool.{Bool, true, false, cond}
 use mathlib.Core.List.{List, []}
 use native.Mathlib.Omega.{arith}
@@ -15,7 +15,7 @@ use Rattle.wire.specs.Lists.{Bytes}
 use Rattle.wire.specs.Output.{overwrite}
 use Rattle.wire.specs.Inner.{written}
 use Rattle.wire.proofs.Lists.{split}
-use Rattle.wire.proofs.Output.{take_overwrite, drop_overwrite, length_overwrite, length_written}
+use Rattle.wire.proofs.Output.{take_overwrite, drop_overwrite, length_overwrite}
 use Rattle.machine.specs.Limits.{highest_label, highest_slot}
 use Rattle.refusal.specs.declared.Refusal.{Refusal}
 use Rattle.refusal.specs.declared.Refusal.TheVariants.{Observer, TurnLimit, Short, Version, ProgramLength, Instruction, TurnSlot, RecordLength, TaskField, Mail, Tail, Estate, Output, PostSlot, PostLabel, Text}
@@ -26,12 +26,6 @@ use Rattle.monitor.specs.declared.Answer.{Answer}
 use Rattle.monitor.specs.declared.Written.{Written}
 use Rattle.monitor.specs.Calls.{Call, call_number, refusal, told, output_answer, call_answer, call_output, CallPromise}
 use Rattle.monitor.specs.Claims.{Accepted, Exactly, NumbersByCause, WritesItsAnswer, TellTheSame}
-
--- ---- what is told once b was written where the output has room: r, its length, was compared with that of the output afterwards
-
-pub told_written : (b out : List ℕ) (busy : ℕ) {r : ℕ} {after : List ℕ} {told : Answer} → r ≡ length b → after ≡ written b out
-    → told ≡ output_answer r busy (length after) → (told ≡ output_answer (length b) busy (length out)) × (after ≡ written b out)
-told_written b out busy size wrote told = (told ∙ ap₂ (λ (n m : ℕ). output_answer n busy m) size (ap length wrote ∙ length_written b out), wrote)
 
 -- ---- which number was given: the arguments' a, the input's i, or 13 where the test t of the output fails
 

@@ -10,7 +10,8 @@ ghost use Rattle.monitor.specs.Calls.{output_answer, told, told_post};
 
 use refusal::Refusal;
 
-// What a call tells: the papers' number, 0 where it is accepted; the length of what it wrote; the turns that met a live task.
+// What a call tells the C interface, and what `CallPromise` and the claims speak of, so its number stays one: the papers' number, 0
+// where it is accepted; the length of what it wrote; the turns that met a live task.
 #[derive(Clone, Copy)]
 pub struct Answer {
     pub number: u8,

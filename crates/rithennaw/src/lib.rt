@@ -8,18 +8,33 @@ ghost use Rattle.std.specs.Prelude.{◌≡◌, cond};
 ghost use Rattle.wire.specs.Lists.{Bytes};
 ghost use Rattle.image.specs.Refusal.{image_number};
 ghost use Rattle.image.specs.Part.{record_extent};
-ghost use Rattle.monitor.specs.Calls.{call_answer, rewrite_call, turns_call, post_call, post_delivered, view_call};
+ghost use Rattle.monitor.specs.Calls.{told, call_answer, rewrite_call, turns_call, post_call, post_delivered, view_call};
 ghost use Rattle.monitor.specs.CallList.{ask_post, Fits};
 ghost use Rattle.sheet.specs.Sheet.{sheet_call};
 ghost use Rattle.listing.specs.Listing.{AssemblePromise, disassemble_call};
 ghost use Rattle.rithennaw.specs.Told.{Told};
+
+use monitor::{Answer, PostAnswer, Written};
+use refusal::Refusal;
+
+// Tells the length of a call that runs no turn, and then its number.
+fn tell(call: Result<Written, Refusal>, length: &mut usize) -> u8
+    ensures { (result ≡ (told call).number) × (length.new ≡ (told call).length) }
+{
+    let answer = Answer::from(call);
+    *length = answer.length;
+    answer.number
+}
 
 // The number of an image, 0 where it is accepted.
 #[unsafe(no_mangle)]
 pub extern "C" fn rithennaw_check(image: &[u8]) -> u8
     ensures { (result ≡ image_number image.now) × Bytes image.now }
 {
-    calls::check(image)
+    match calls::check(image) {
+        Ok(()) => 0,
+        Err(refusal) => u8::from(refusal),
+    }
 }
 
 // Where the record of a slot stands in the image: start and length both 0 where it has none.
@@ -38,9 +53,7 @@ pub extern "C" fn rithennaw_record(image: &[u8], slot: u32, start: &mut usize, l
 pub extern "C" fn rithennaw_rewrite(image: &[u8], out: &mut [u8], length: &mut usize) -> u8
     ensures { Told image.now (rewrite_call image.now) out.old result length.new out.new }
 {
-    let rewritten = calls::rewrite(image, out);
-    *length = rewritten.length;
-    rewritten.number
+    tell(calls::rewrite(image, out), length)
 }
 
 // Writes the image after `count` turns.
@@ -55,7 +68,7 @@ pub extern "C" fn rithennaw_turns(
     ensures { Told image.now (turns_call count image.now) out.old result length.new out.new
         × (busy.new ≡ (call_answer (turns_call count image.now) out.old).busy) }
 {
-    let turned = calls::turns(image, count, out);
+    let turned = Answer::from(calls::turns(image, count, out));
     *length = turned.length;
     *busy = turned.busy;
     turned.number
@@ -77,7 +90,7 @@ pub extern "C" fn rithennaw_post(
         × (delivered.new ≡ cond (post_delivered slot label value image.now out.old) 1 0)
         × Fits (ask_post slot label value) }
 {
-    let posted = calls::post(image, slot, label, value, out);
+    let posted = PostAnswer::from(calls::post(image, slot, label, value, out));
     *length = posted.answer.length;
     *delivered = posted.delivered as u8;
     posted.answer.number
@@ -93,9 +106,7 @@ pub extern "C" fn rithennaw_view(
 ) -> u8
     ensures { Told image.now (view_call observer image.now) out.old result length.new out.new }
 {
-    let viewed = calls::view(image, observer, out);
-    *length = viewed.length;
-    viewed.number
+    tell(calls::view(image, observer, out), length)
 }
 
 // Writes the observer sheet.
@@ -108,9 +119,7 @@ pub extern "C" fn rithennaw_sheet(
 ) -> u8
     ensures { Told image.now (sheet_call observer image.now) out.old result length.new out.new }
 {
-    let listed = sheet::write(image, observer, out);
-    *length = listed.length;
-    listed.number
+    tell(sheet::write(image, observer, out), length)
 }
 
 // Writes the program of a text.
@@ -119,9 +128,7 @@ pub extern "C" fn rithennaw_assemble(text: &[u8], out: &mut [u8], length: &mut u
     ensures { AssemblePromise text.now out.old (record { number = result; length = length.new; busy = 0 }) out.new
         × Bytes text.now }
 {
-    let assembled = listing::assemble(text, out);
-    *length = assembled.length;
-    assembled.number
+    tell(listing::assemble(text, out), length)
 }
 
 // Writes the text of a program.
@@ -129,7 +136,5 @@ pub extern "C" fn rithennaw_assemble(text: &[u8], out: &mut [u8], length: &mut u
 pub extern "C" fn rithennaw_disassemble(program: &[u8], out: &mut [u8], length: &mut usize) -> u8
     ensures { Told program.now (disassemble_call program.now) out.old result length.new out.new }
 {
-    let disassembled = listing::disassemble(program, out);
-    *length = disassembled.length;
-    disassembled.number
+    tell(listing::disassemble(program, out), length)
 }

@@ -21,6 +21,7 @@ use Rattle.machine.proofs.Machine.{view_valid}
 use Rattle.image.specs.Image.{state_of}
 use Rattle.image.specs.Refusal.{image_number}
 use Rattle.image.proofs.Image.{accepted_valid}
+use Rattle.table.specs.declared.Table.{Table}
 use Rattle.table.specs.Table.{slots_in}
 use Rattle.text.specs.Text.{ascii, decimal, spaced, line_rest}
 use Rattle.sheet.specs.Sheet.{heading, slot_line, slot_lines, sheet_text, sheet_bytes, refusal_line}
@@ -29,9 +30,9 @@ use Rattle.text.proofs.Text.{decimal_width, length_spaced, length_line}
 
 -- ---- the table's sheet
 
-pub sheet_shown : (v : ℕ) (words : List ℕ) (s : State) → slots_in words ≡ s.slots → shown_sheet v words ≡ sheet_text (view v s)
+pub sheet_shown : (v : ℕ) (table : Table) (s : State) → slots_in table ≡ s.slots → shown_sheet v table ≡ sheet_text (view v s)
 unfolding shown_sheet shown_lines shown_line sheet_text slot_lines view_by
-sheet_shown v words s loaded =
+sheet_shown v table s loaded =
     rw loaded
     (ap (λ (g : ℕ → List ℕ). heading ++ encode_items g (tabulate 16 (λ s. s)))
     (λ i k. slot_line k (sym (get_or-map (view_slot (λ l. flows l v)) s.slots k unused) i)))

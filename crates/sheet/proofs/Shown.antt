@@ -9,7 +9,7 @@ use lib.ListN.{length, get_or, take, drop}
 use Rattle.wire.specs.Lists.{tabulate}
 use Rattle.wire.specs.Output.{overwrite}
 use Rattle.wire.proofs.Tabulate.{length_tabulate, get_d_tabulate}
-use Rattle.wire.proofs.Output.{ItemsWritten, items_none, item_room, item_part, items_more, items_size, items_all}
+use Rattle.wire.proofs.Output.{ItemsWritten, item_part, items_more, items_size, items_all}
 use Rattle.label.specs.Label.{flows}
 use Rattle.machine.specs.State.{Task, Slot, slot_at}
 use Rattle.machine.specs.View.{view_task}
@@ -46,9 +46,6 @@ module _ (v : ℕ) (ss : List Slot) (out₀ : List ℕ) where
   abbrev pub LinesWritten : List ℕ → ℕ → ℕ → Type 0
   LinesWritten out at s = ItemsWritten (shown_line v ss) (tabulate 16 (λ s. s)) out₀ out at s
 
-  pub lines_none : LinesWritten out₀ 0 0
-  lines_none = items_none (shown_line v ss) (tabulate 16 (λ s. s)) out₀
-
   module _ (room : length (shown_lines v ss) ≤ length out₀) {out : List ℕ} {at s : ℕ} (more : s < 16) (h : LinesWritten out at s) where
     -- item s of the sixteen is slot s
     number : get_or (tabulate 16 (λ s. s)) s 0 ≡ s
@@ -56,10 +53,6 @@ module _ (v : ℕ) (ss : List Slot) (out₀ : List ℕ) where
 
     counted : s < length (tabulate 16 (λ s. s))
     counted = omega (arith, length_tabulate 16 (λ s. s))
-
-    pub line_room : at + length (shown_line v ss s) ≤ length out
-    unfolding shown_lines
-    line_room = rw number at (item_room (shown_line v ss) (tabulate 16 (λ s. s)) out₀ room 0 counted h)
 
     pub line_part : length (shown_line v ss s) ≤ length (take (length out - at) (drop at out))
     unfolding shown_lines

@@ -6,8 +6,11 @@ use Rattle.wire.specs.Items.{encode_items}
 use Rattle.label.specs.Label.{flows}
 use Rattle.machine.specs.State.{Task, Slot, used, slot_at}
 use Rattle.machine.specs.View.{view_task, view_slot}
+use Rattle.table.specs.declared.Table.{Table}
 use Rattle.table.specs.Table.{slots_in}
+use Rattle.table.specs.Change.{task_at}
 use Rattle.sheet.specs.Sheet.{heading, slot_line}
+use Rattle.sheet.specs.declared.View.{View}
 
 -- the line of a task in slot s that the view for label v has, and the line of slot s in that view
 unfoldable pub shown_task_line : ℕ → ℕ → Task → List ℕ
@@ -20,5 +23,19 @@ shown_line v ss s = slot_line s (view_slot (λ l. flows l v) (slot_at ss s))
 unfoldable pub shown_lines : ℕ → List Slot → List ℕ
 shown_lines v ss = encode_items (shown_line v ss) (tabulate 16 (λ s. s))
 
-unfoldable pub shown_sheet : ℕ → List ℕ → List ℕ
-shown_sheet v words = heading ++ shown_lines v (slots_in words)
+unfoldable pub shown_sheet : ℕ → Table → List ℕ
+shown_sheet v table = heading ++ shown_lines v (slots_in table)
+
+-- ---- of a table as an observer sees it: the line of the task in slot s, of slot s and of all slots, and the whole sheet
+
+abbrev pub seen_task_line : View → ℕ → List ℕ
+seen_task_line v s = shown_task_line v.observer s (task_at (slots_in v.table.now) s)
+
+abbrev pub seen_line : View → ℕ → List ℕ
+seen_line v s = shown_line v.observer (slots_in v.table.now) s
+
+abbrev pub seen_lines : View → List ℕ
+seen_lines v = shown_lines v.observer (slots_in v.table.now)
+
+abbrev pub seen_sheet : View → List ℕ
+seen_sheet v = shown_sheet v.observer v.table.now

@@ -1,5 +1,5 @@
 -- Laws of reading a number: the digits that are read are those that are written, and no others.
-use Prim.Native.Nat.{ℕ, zero, suc, ◌+◌, ◌*◌, ◌/◌, ◌%◌, ◌-◌, min, ◌<◌, ◌≤◌}
+use Prim.Native.Nat.{ℕ, zero, suc, ◌+◌, ◌*◌, ◌/◌, ◌%◌, ◌-◌, ◌<◌, ◌≤◌}
 use mathlib.Core.Logic.{dite}
 use mathlib.Core.Path.{◌≡◌, refl, sym, ap, ◌∙◌}
 use mathlib.Core.Bool.{true, false, ◌&&◌, ◌||◌}
@@ -8,16 +8,16 @@ use native.Mathlib.Decide.{dec_lt}
 use native.Mathlib.Nat.{not-suc-le-zero}
 use native.Mathlib.Numerals.{add-one}
 use native.Mathlib.Omega.{arith}
-use borrow.Author.Tests.{lt-ltb, ltb-true, ltb-false, leb-true, le-leb, eqb-true, eq-eqb, ne_eqb}
+use borrow.Author.Tests.{lt-ltb, ltb-true, ltb-false, leb-true, le-leb, lt-leb, eqb-true, eq-eqb, ne_eqb}
 use lib.Dec.{leb, ltb, eqb}
-use lib.ListN.{length, get_or, drop, length-append, get_or-append}
+use lib.ListN.{length, get_or, drop, length-append, get_or-append, drop_of_length-le}
 use lib.Seq.{length-take-le, split_at, take-append_seam, drop-cons}
 use Rattle.wire.specs.Lists.{Every, all, first_index}
 use Rattle.wire.proofs.Lists.{length_nil, split, and_both, all_append, first_le, first_passes, first_behind}
 use Rattle.text.specs.Text.{decimal}
-use Rattle.text.specs.Inner.{is_digit, is_decimal, value_from, ahead, number_length, number_value, number_read}
+use Rattle.text.specs.Inner.{is_digit, is_decimal, value_from, byte_value, ahead, number_length, number_value, number_read}
 use Rattle.text.specs.declared.Number.{Number}
-use Rattle.std.proofs.Common.{Some, None}
+use Rattle.std.proofs.Common.{Option, Some, None}
 use Rattle.text.proofs.Text.{decimal_digit, decimal_more, length_digit, length_more}
 
 -- ---- digits and their number
@@ -183,30 +183,29 @@ module _ (end : ℕ) (b : List ℕ) (found : 0 < number_length end b) where
   pub found_inside : number_length end b ≤ length b
   found_inside = omega (arith, found_length, tests.0)
 
--- ---- a loop over the digits: the one at index i, and a number that is kept up to 256, which the others only make larger
+-- ---- a loop over the digits: the one at index i, and a number above 255, which the others only make larger
 
-value_next : (x : ℕ) (s : List ℕ) (i : ℕ) → i < length s → value_from x (drop i s) ≡ value_from (x * 10 + get_or s i 0 % 16) (drop (i + 1) s)
-value_next x s i h = rw (drop-cons s i 0 h, add-one i) refl
+pub value_more : (x : ℕ) (s : List ℕ) (i y : ℕ) → i < length s → y ≡ x * 10 + get_or s i 0 % 16 → value_from x (drop i s) ≡ value_from y (drop (i + 1) s)
+value_more x s i y h e = rw (drop-cons s i 0 h, add-one i, e) refl
 
-value_capped : (x : ℕ) (w : List ℕ) → min (value_from x w) 256 ≡ min (value_from (min x 256) w) 256
-value_capped x w =
-    dite (dec_lt x 256)
-    (λ l. let same : min x 256 ≡ x = omega arith in rw same)
-    (λ l. let most : min x 256 ≡ 256 = omega arith in rw most (omega (arith, value_least x w, value_least 256 w)))
+pub value_above : (x : ℕ) (s : List ℕ) (i : ℕ) → i < length s → 255 < x * 10 + get_or s i 0 % 16 → None ≡ byte_value (value_from x (drop i s))
+value_above x s i h above =
+    let y = x * 10 + get_or s i 0 % 16 in
+    let least = value_least y (drop (i + 1) s) in
+    rw (value_more x s i y h refl, lt-leb (value_from y (drop (i + 1) s)) 255 (omega arith)) refl
 
-pub value_kept : (x : ℕ) (s : List ℕ) (i y : ℕ) → i < length s → y ≡ min (x * 10 + get_or s i 0 % 16) 256
-    → min (value_from x (drop i s)) 256 ≡ min (value_from y (drop (i + 1) s)) 256
-value_kept x s i y h e = rw (value_next x s i h, e) (value_capped (x * 10 + get_or s i 0 % 16) (drop (i + 1) s))
+pub value_whole : (x : ℕ) (s : List ℕ) (i : ℕ) → length s ≤ i → x ≤ 255 → Some x ≡ byte_value (value_from x (drop i s))
+value_whole x s i end h = rw (drop_of_length-le s end, le-leb x 255 h) refl
 
 -- ---- a number as it is read
 
 module _ (end : ℕ) (b : List ℕ) where
   abbrev stands : Number
-  stands = record { value = min (number_value end b) 256; length = number_length end b }
+  stands = record { value = byte_value (number_value end b); length = number_length end b }
 
   -- it is there exactly where one stands, and it is that one
   pub number_some : (n : Number) → number_read end b ≡ Some n
-      → (0 < number_length end b) × (n.value ≡ min (number_value end b) 256) × (n.length ≡ number_length end b)
+      → (0 < number_length end b) × (n.value ≡ byte_value (number_value end b)) × (n.length ≡ number_length end b)
   unfolding number_read
   number_some n =
       split (ltb 0 (number_length end b))
@@ -221,7 +220,7 @@ module _ (end : ℕ) (b : List ℕ) where
       (λ t. let none = ltb-false 0 (number_length end b) t in λ e. omega arith)
 
   -- by the tests that find it
-  pub number_found : {n v : ℕ} → (ltb (length (ahead end b)) (length b) && is_decimal (ahead end b)) ≡ true → v ≡ min (number_value end b) 256
+  pub number_found : {n : ℕ} {v : Option ℕ} → (ltb (length (ahead end b)) (length b) && is_decimal (ahead end b)) ≡ true → v ≡ byte_value (number_value end b)
       → n ≡ length (ahead end b) → Some (record { value = v; length = n + 1 }) ≡ number_read end b
   unfolding number_read number_length
   number_found t e k = rw (e, k, t, lt-ltb 0 (suc (length (ahead end b))) (omega arith), add-one (length (ahead end b)))

@@ -1,5 +1,5 @@
 -- Definitions for contracts of functions that are no calls: reading a number in decimal. No claim and no call's promise reaches them.
-use Rattle.std.specs.Prelude.{ℕ, suc, ◌+◌, ◌*◌, ◌%◌, min, Bool, cond, ◌&&◌, ◌||◌, List, [], ◌∷◌, Option, Some, None, leb, ltb, eqb, length, get_or, take}
+use Rattle.std.specs.Prelude.{ℕ, suc, ◌+◌, ◌*◌, ◌%◌, Bool, cond, ◌&&◌, ◌||◌, List, [], ◌∷◌, Option, Some, None, leb, ltb, eqb, length, get_or, take}
 use Rattle.wire.specs.Lists.{all, first_index}
 use Rattle.text.specs.declared.Number.{Number}
 
@@ -16,6 +16,10 @@ abbrev pub value_from : ℕ → List ℕ → ℕ
 value_from x [] = x
 value_from x (d ∷ w) = value_from (x * 10 + d % 16) w
 
+-- a number as a byte, none above 255
+abbrev pub byte_value : ℕ → Option ℕ
+byte_value x = cond (leb x 255) (Some x) None
+
 -- what stands ahead of the first byte `end`, all of b where it has none
 abbrev pub ahead : ℕ → List ℕ → List ℕ
 ahead end b = take (first_index (λ y. eqb y end) b) b
@@ -27,6 +31,6 @@ number_length end b = cond (ltb (length (ahead end b)) (length b) && is_decimal 
 unfoldable pub number_value : ℕ → List ℕ → ℕ
 number_value end b = value_from 0 (ahead end b)
 
--- and both as they are read: the number is 256 where it is above 255, and where none stands there, there is none
+-- and both as they are read: the number as a byte; and where none stands there, there is none
 unfoldable pub number_read : ℕ → List ℕ → Option Number
-number_read end b = cond (ltb 0 (number_length end b)) (Some (record { value = min (number_value end b) 256; length = number_length end b })) None
+number_read end b = cond (ltb 0 (number_length end b)) (Some (record { value = byte_value (number_value end b); length = number_length end b })) None

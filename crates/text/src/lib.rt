@@ -1,12 +1,12 @@
 // Text as bytes: numbers in decimal and lines of them, written at the front of an output that has room, and numbers that are read.
 #![tactic(auto)]
 
-ghost use Rattle.std.specs.Prelude.{◌≤◌, min, ◌≡◌, length};
+ghost use Rattle.std.specs.Prelude.{◌≤◌, ◌≡◌, length};
 ghost use Rattle.wire.specs.Lists.{all};
 ghost use Rattle.wire.specs.Items.{encode_items};
 ghost use Rattle.wire.specs.Output.{overwrite};
 ghost use Rattle.text.specs.Text.{decimal, spaced, line_rest};
-ghost use Rattle.text.specs.Inner.{is_digit, is_decimal, value_from, number_read};
+ghost use Rattle.text.specs.Inner.{is_digit, is_decimal, value_from, byte_value, number_read};
 
 // ---- writing
 
@@ -19,7 +19,8 @@ pub fn put(out: &mut [u8], text: &[u8]) -> usize
     text.len()
 }
 
-// Writes a number in decimal: how many digits. `write!` would need a writer over the slice, which is no plainer than these stores.
+// Writes a number in decimal: how many digits.
+// `write!` to the slice tells a lack of room, which cannot be here, and how many bytes it wrote has to be told from what is left.
 pub fn put_decimal(out: &mut [u8], x: u32) -> usize
     requires { length (decimal x) ≤ length out.old }
     ensures { (result ≡ length (decimal x)) × (out.new ≡ overwrite (decimal x) out.old) }
@@ -50,6 +51,7 @@ fn put_numbers(out: &mut [u8], numbers: &[u32]) -> usize
         × (out.new ≡ overwrite (encode_items spaced numbers.now) out.old) }
 {
     let mut at: usize = 0;
+    // One loop for all lists that are written would take each item's promise as a predicate of its closure, which is no plainer.
     for &x in numbers {
         at += put_spaced(&mut out[at..], x);
     }
@@ -84,24 +86,21 @@ fn is_decimal(s: &[u8]) -> bool
     all_digits(s) & ((n == 1) | ((1 < n) & (b'0' < wire::byte_at(s, 0))))
 }
 
-// The number that a number above 255 is read as.
-const ABOVE_BYTE: usize = 256;
-
-// The number that digits make, or 256 where it is above 255, however many they are: none behind makes it smaller.
-fn value(s: &[u8]) -> usize
-    ensures { result ≡ min (value_from 0 s.now) 256 }
+// The number that digits make, none where it is above 255, however many they are: none behind makes it smaller.
+fn value(s: &[u8]) -> Option<u8>
+    ensures { result ≡ byte_value (value_from 0 s.now) }
 {
-    let mut x: usize = 0;
+    let mut x: u8 = 0;
     for &d in s {
-        x = (x * 10 + (d % 16) as usize).min(ABOVE_BYTE);
+        x = x.checked_mul(10)?.checked_add(d % 16)?;
     }
-    x
+    Some(x)
 }
 
-// A number that was read: its value, or 256 where it is above 255, and how many bytes it has together with the byte that ends it.
+// A number that was read: its value, none where it is above 255, and how many bytes it has together with the byte that ends it.
 #[derive(Clone, Copy)]
 pub struct Number {
-    pub value: usize,
+    pub value: Option<u8>,
     pub length: usize,
 }
 

@@ -14,6 +14,7 @@ use Rattle.machine.specs.Post.{host_message, has_more, delivered}
 use Rattle.machine.specs.Post as Post
 use Rattle.image.specs.Image.{turn_slot_of, state_of, image_bytes}
 use Rattle.image.specs.Refusal.{post_number, image_number}
+use Rattle.table.specs.declared.Table.{Table}
 use Rattle.table.specs.Table.{slots_in}
 use Rattle.snapshot.specs.Writing.{snapshot_bytes}
 use Rattle.effect.proofs.Effects.{valid_room}
@@ -26,7 +27,7 @@ use Rattle.calls.proofs.post.Goals as goal
 -- ---- a message delivered or dropped: what is written then, and which it was
 
 module _ (slot label value : ℕ) (image : List ℕ) (all : Bytes image) (accepted : image_number image ≡ 0) (low : label ≤ highest_label)
-    (fits : value < 2 ^ 32) (before after : List ℕ) (loaded : slots_in before ≡ (state_of image).slots)
+    (fits : value < 2 ^ 32) (before after : Table) (loaded : slots_in before ≡ (state_of image).slots)
     (sent : slots_in after ≡ perform (deliver slot (host_message label value)) (slots_in before)) where
   posted : slots_in after ≡ (Post.post slot label value (state_of image)).slots
   unfolding Post.post
@@ -57,9 +58,6 @@ returns-in_err-load c =
     let a = c.args in
     let r = c.from_residual-in_err-load in
     post_met a.slot a.label a.value a.image.now a.out.now r.result _ r.ensures.1 (sym c.in_ok-check_post.ensures) c.in_err-load.ensures.0
-
-pub overflow_cast-label : goal.overflow_cast-label
-overflow_cast-label c = omega (arith, (post_within c.args.slot c.args.label (sym c.in_ok-check_post.ensures)).1)
 
 pub deliver-delivered-requires : goal.deliver-delivered-requires
 deliver-delivered-requires c =

@@ -1,5 +1,5 @@
 -- `listing::read_line` meets its contract: each part is read behind the one before it.
-use Prim.Native.Nat.{ℕ, ◌+◌, ◌<◌, ◌≤◌, min}
+use Prim.Native.Nat.{ℕ, ◌+◌, ◌<◌, ◌≤◌}
 use mathlib.Core.Path.{◌≡◌, refl, sym, ap, ◌∙◌}
 use mathlib.Core.Bool.{true}
 use mathlib.Core.List.{List}
@@ -10,7 +10,7 @@ use lib.ListN.{length, take, drop}
 use Rattle.std.specs.Prelude.{Some, None}
 use Rattle.wire.specs.Lists.{first_index}
 use Rattle.wire.proofs.Lists.{split}
-use Rattle.text.specs.Inner.{ahead, number_length, number_value, number_read}
+use Rattle.text.specs.Inner.{ahead, byte_value, number_length, number_value, number_read}
 use Rattle.text.specs.declared.Number.{Number}
 use Rattle.text.proofs.Reading.{number_some, number_none}
 use Rattle.instruction.specs.Table.{table}
@@ -44,7 +44,7 @@ module _ (s : List ℕ) {word : List ℕ} {index : ℕ} (found : index ≡ first
     no_a e = missing s (λ t. omega (arith, (line_parts s t).1, number_none 32 on_a (sym e), ap (number_length 32) a_on))
 
     module _ {a : Number} (a_told : Some a ≡ number_read 32 on_a) {on_b : List ℕ} (behind_a : on_b ≡ drop a.length on_a) where
-      abbrev a_some : (0 < number_length 32 on_a) × (a.value ≡ min (number_value 32 on_a) 256) × (a.length ≡ number_length 32 on_a)
+      abbrev a_some : (0 < number_length 32 on_a) × (a.value ≡ byte_value (number_value 32 on_a)) × (a.length ≡ number_length 32 on_a)
       a_some = number_some 32 on_a a (sym a_told)
 
       b_on : behind_number (behind_word s) ≡ on_b
@@ -54,7 +54,7 @@ module _ (s : List ℕ) {word : List ℕ} {index : ℕ} (found : index ≡ first
       no_b e = missing s (λ t. omega (arith, (line_parts s t).2, number_none 32 on_b (sym e), ap (number_length 32) b_on))
 
       module _ {b : Number} (b_told : Some b ≡ number_read 32 on_b) {on_c : List ℕ} (behind_b : on_c ≡ drop b.length on_b) where
-        abbrev b_some : (0 < number_length 32 on_b) × (b.value ≡ min (number_value 32 on_b) 256) × (b.length ≡ number_length 32 on_b)
+        abbrev b_some : (0 < number_length 32 on_b) × (b.value ≡ byte_value (number_value 32 on_b)) × (b.length ≡ number_length 32 on_b)
         b_some = number_some 32 on_b b (sym b_told)
 
         c_on : behind_number (behind_number (behind_word s)) ≡ on_c
@@ -64,7 +64,7 @@ module _ (s : List ℕ) {word : List ℕ} {index : ℕ} (found : index ≡ first
         no_c e = missing s (λ t. omega (arith, (line_parts s t).3, number_none 10 on_c (sym e), ap (number_length 10) c_on))
 
         module _ {code : ℕ} {c : Number} (code_told : Some code ≡ code_found word) (c_told : Some c ≡ number_read 10 on_c) where
-          abbrev c_some : (0 < number_length 10 on_c) × (c.value ≡ min (number_value 10 on_c) 256) × (c.length ≡ number_length 10 on_c)
+          abbrev c_some : (0 < number_length 10 on_c) × (c.value ≡ byte_value (number_value 10 on_c)) × (c.length ≡ number_length 10 on_c)
           c_some = number_some 10 on_c c (sym c_told)
 
           there : has_line s ≡ true

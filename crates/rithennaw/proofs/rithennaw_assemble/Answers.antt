@@ -2,6 +2,7 @@
 use mathlib.Core.Path.{◌≡◌}
 use Rattle.wire.proofs.Lists.{IsByte, every_of}
 use Rattle.monitor.specs.declared.Answer.{Answer}
+use Rattle.monitor.specs.Calls.{told}
 use Rattle.listing.proofs.Assembled.{assembled_busy}
 use Rattle.rithennaw.proofs.rithennaw_assemble.Goals as goal
 
@@ -11,8 +12,9 @@ without_busy a e i = record { number = a.number; length = a.length; busy = e i }
 
 pub returns : goal.returns
 returns c =
-    let r = c.assemble-assembled in
+    let r = c.assemble in
     let a = c.args in
     let bytes = every_of IsByte 0 a.text.now (λ i. (c.type_inv.text i).fits) in
-    let busy = assembled_busy a.text.now a.out.now r.result r.new.out r.ensures in
-    (rw (without_busy r.result busy) at r.ensures, bytes)
+    let busy = assembled_busy a.text.now a.out.now (told r.result) r.new.out r.ensures in
+    let same = without_busy (told r.result) busy in
+    (rw (same, ← c.tell.ensures.0, ← c.tell.ensures.1) at r.ensures, bytes)

@@ -3,38 +3,35 @@ use Prim.Native.Nat.{ℕ, ◌≤◌}
 use mathlib.Core.Path.{◌≡◌}
 use mathlib.Core.List.{List, [], ◌∷◌}
 use native.Mathlib.Omega.{arith}
-use lib.ListN.{length}
+use lib.ListN.{length, length-append}
 use Rattle.refusal.specs.declared.Refusal.{Refusal}
 use Rattle.refusal.specs.Refusal.{number_of}
 use Rattle.wire.specs.Lists.{tabulate}
-use Rattle.wire.specs.Inner.{written}
-use Rattle.wire.proofs.Output.{FrontWritten, front_copied, part_inside, part_room, both_written, both_fit}
+use Rattle.wire.specs.Output.{overwrite}
+use Rattle.wire.proofs.Output.{FrontWritten, part_room, both_written}
 use Rattle.text.specs.Text.{ascii, line_rest}
 use Rattle.sheet.specs.Sheet.{refusal_line}
 use Rattle.sheet.proofs.put_refusal.Goals as goal
 
--- the word is written, and what stands behind it has room
-front : (refusal : Refusal) (out : List ℕ) {number : ℕ} {new : List ℕ} → number ≡ number_of refusal → length (refusal_line (number_of refusal)) ≤ length out
-    → new ≡ written (ascii "refused") out → FrontWritten (ascii "refused") (line_rest (number ∷ [])) out new 7
-unfolding refusal_line ascii tabulate
-front refusal out {number} same room wrote = front_copied (ascii "refused") (line_rest (number ∷ [])) out (rw same room) wrote
+-- the word has room, and with it written so has what stands behind it
+word_room : (refusal : Refusal) (out : List ℕ) → length (refusal_line (number_of refusal)) ≤ length out → length (ascii "refused") ≤ length out
+unfolding refusal_line
+word_room refusal out room = let whole = simp length-append at room in omega (arith, whole)
 
-pub slice_bounds-put_line_rest-count : goal.slice_bounds-put_line_rest-count
-unfolding ascii tabulate
-slice_bounds-put_line_rest-count c = part_inside (front c.args.refusal c.args.out.now c.from-number.ensures c.requires c.copy.ensures)
+front : (refusal : Refusal) (out : List ℕ) {number n : ℕ} {new : List ℕ} → number ≡ number_of refusal → length (refusal_line (number_of refusal)) ≤ length out
+    → (n ≡ length (ascii "refused")) × (new ≡ overwrite (ascii "refused") out) → FrontWritten (ascii "refused") (line_rest (number ∷ [])) out new n
+unfolding refusal_line
+front refusal out same room wrote = record { size = wrote.0; front = wrote.1; room = rw same room }
 
-pub slice_bounds-put_line_rest-start : goal.slice_bounds-put_line_rest-start
+pub put-n-requires : goal.put-n-requires
 unfolding ascii tabulate
-slice_bounds-put_line_rest-start c = part_inside (front c.args.refusal c.args.out.now c.from-number.ensures c.requires c.copy.ensures)
+put-n-requires c = word_room c.args.refusal c.args.out.now c.requires
 
 pub put_line_rest-requires : goal.put_line_rest-requires
 unfolding ascii tabulate
-put_line_rest-requires c = part_room (front c.args.refusal c.args.out.now c.from-number.ensures c.requires c.copy.ensures)
-
-pub overflow_add-result : goal.overflow_add-result
-unfolding ascii tabulate
-overflow_add-result c = omega (arith, both_fit (front c.args.refusal c.args.out.now c.from-number.ensures c.requires c.copy.ensures) c.put_line_rest.ensures, c.well_formed.0.0)
+put_line_rest-requires c = part_room (front c.args.refusal c.args.out.now c.from-number.ensures c.requires c.put-n.ensures)
 
 pub returns : goal.returns
 unfolding refusal_line ascii tabulate
-returns c = rw c.from-number.ensures at (both_written (front c.args.refusal c.args.out.now c.from-number.ensures c.requires c.copy.ensures) c.put_line_rest.ensures)
+returns c =
+    rw c.from-number.ensures at (both_written (front c.args.refusal c.args.out.now c.from-number.ensures c.requires c.put-n.ensures) c.put_line_rest.ensures)

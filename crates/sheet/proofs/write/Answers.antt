@@ -9,29 +9,26 @@ use Rattle.sheet.proofs.Sheet.{sheet_shown, sheet_fits}
 use Rattle.sheet.proofs.write.Goals as goal
 
 -- an observer above 15
-pub returns-in_err-label : goal.returns-in_err-label
-returns-in_err-label c = beyond_told _ _ c.from_residual.result _ c.from_residual.ensures.1 c.in_err-label.ensures.0
+pub returns-in_err-observer : goal.returns-in_err-observer
+returns-in_err-observer c = beyond_told _ _ c.from_residual.result _ c.from_residual.ensures.1 c.in_err-observer.ensures.0
 
 -- a refused image
 pub returns-in_err-check : goal.returns-in_err-check
 returns-in_err-check c =
     let r = c.from_residual-in_err-check in
-    refused_told _ _ (sym c.in_ok-label.ensures.0) r.result _ r.ensures.1 c.in_err-check.ensures
-
-pub load-requires : goal.load-requires
-load-requires c = sym c.in_ok-check.ensures
+    refused_told _ _ (sym c.in_ok-observer.ensures.0) r.result _ r.ensures.1 c.in_err-check.ensures
 
 pub write_answer-requires : goal.write_answer-requires
 write_answer-requires c =
     let image = c.args.image.now in
-    let v = c.in_ok-label.label in
+    let v = c.in_ok-observer.observer in
     let bytes = every_of IsByte 0 image (λ i. (c.type_inv.image i).fits) in
     rw (sheet_shown v c.load.new.table (state_of image) c.load.ensures) (sheet_fits v image bytes (sym c.in_ok-check.ensures))
 
 pub returns : goal.returns
 returns c =
     let image = c.args.image.now in
-    let v = c.in_ok-label.label in
+    let v = c.in_ok-observer.observer in
     let same = sheet_shown v c.load.new.table (state_of image) c.load.ensures in
-    let seen = ap (λ (v : ℕ). sheet_bytes v image) c.in_ok-label.ensures.1 in
-    call_accepted _ _ (sym c.in_ok-label.ensures.0) (sym c.in_ok-check.ensures) (same ∙ seen) refl c.write_answer.ensures
+    let seen = ap (λ (v : ℕ). sheet_bytes v image) c.in_ok-observer.ensures.1 in
+    call_accepted _ _ (sym c.in_ok-observer.ensures.0) (sym c.in_ok-check.ensures) (same ∙ seen) refl c.write_answer.ensures
