@@ -4,7 +4,7 @@ use Rattle.wire.specs.Slices.{offset_by}
 use Rattle.refusal.specs.Refusal.{number}
 use Rattle.image.specs.Refusal.{image_number}
 use Rattle.image.specs.Part.{record_part, record_extent}
-use Rattle.monitor.specs.Calls.{told, told_post, CallPromise, rewrite_call, turns_call, PostPromise, view_call}
+use Rattle.monitor.specs.Calls.{as_answer, as_post_answer, CallPromise, rewrite_call, turns_call, PostPromise, view_call}
 use Rattle.monitor.proofs.Keeps.{Keeps, image_of, slot_number_of, count_of, observer_of, output_of, label_of, value_of, post_output_of, sole_output_of}
 use Rattle.calls.specs.contracts.check as Check
 use Rattle.calls.proofs.check.Symbol as CheckCode
@@ -41,17 +41,17 @@ module _ {M : Type 1} where
   record_extent_keeps = RecordExtentMet.met
 
   pub rewrite_keeps : Keeps M Rewrite.ended RewriteCode.code RewriteCode.name
-      (λ κs a r e. CallPromise (rewrite_call (image_of a).now) (sole_output_of a).now (told r) (sole_output_of e).now)
+      (λ κs a r e. CallPromise (rewrite_call (image_of a).now) (sole_output_of a).now (as_answer r) (sole_output_of e).now)
   rewrite_keeps = RewriteMet.met
 
   pub turns_keeps : Keeps M Turns.ended TurnsCode.code TurnsCode.name
-      (λ κs a r e. CallPromise (turns_call (count_of a) (image_of a).now) (output_of a).now (told r) (output_of e).now)
+      (λ κs a r e. CallPromise (turns_call (count_of a) (image_of a).now) (output_of a).now (as_answer r) (output_of e).now)
   turns_keeps = TurnsMet.met
 
   pub post_keeps : Keeps M Post.ended PostCode.code PostCode.name
-      (λ κs a r e. PostPromise (slot_number_of a) (label_of a) (value_of a) (image_of a).now (post_output_of a).now (told_post r) (post_output_of e).now)
+      (λ κs a r e. PostPromise (slot_number_of a) (label_of a) (value_of a) (image_of a).now (post_output_of a).now (as_post_answer r) (post_output_of e).now)
   post_keeps = PostMet.met
 
   pub view_keeps : Keeps M View.ended ViewCode.code ViewCode.name
-      (λ κs a r e. CallPromise (view_call (observer_of a) (image_of a).now) (output_of a).now (told r) (output_of e).now)
+      (λ κs a r e. CallPromise (view_call (observer_of a) (image_of a).now) (output_of a).now (as_answer r) (output_of e).now)
   view_keeps = ViewMet.met

@@ -10,7 +10,7 @@ ghost use Rattle.image.specs.Refusal.{turn_limit_number, post_number, image_numb
 ghost use Rattle.image.specs.Part.{record_part, record_extent};
 ghost use Rattle.table.specs.Table.{slots_in};
 ghost use Rattle.snapshot.specs.Writing.{snapshot_bytes};
-ghost use Rattle.monitor.specs.Calls.{told, told_post, output_answer, CallPromise, rewrite_call, turns_call, PostPromise, view_call};
+ghost use Rattle.monitor.specs.Calls.{as_answer, as_post_answer, output_answer, CallPromise, rewrite_call, turns_call, PostPromise, view_call};
 
 use machine::Message;
 use monitor::{Posted, Written};
@@ -40,15 +40,6 @@ pub fn record_extent(image: &[u8], slot: u32) -> image::Extent
     judge::record_extent(image, slot as usize)
 }
 
-// Puts the tasks of an image into the table, if the image is accepted. The table is lent, so that no call copies it.
-fn load(table: &mut Table, image: &[u8]) -> Result<(), Refusal>
-    ensures { (number result ≡ image_number image.now) × OnOk result (slots_in table.new ≡ (state_of image.now).slots) }
-{
-    check(image)?;
-    loader::load(table, image);
-    Ok(())
-}
-
 // Ends a call whose image is accepted: writes the table's tasks as the observer sees them, if the output has room for them.
 fn write_answer(
     out: &mut [u8],
@@ -58,7 +49,7 @@ fn write_answer(
     observer: u8,
     busy: u64,
 ) -> Result<Written, Refusal>
-    ensures { (told result ≡ output_answer (length (snapshot_bytes table.now image.now turn observer)) busy (length out.old))
+    ensures { (as_answer result ≡ output_answer (length (snapshot_bytes table.now image.now turn observer)) busy (length out.old))
         × (out.new ≡ written (snapshot_bytes table.now image.now turn observer) out.old) }
 {
     let size = snapshot::write(out, table, image, turn, observer);
@@ -67,18 +58,19 @@ fn write_answer(
 
 // Writes the view of an image for an observer.
 pub fn view(image: &[u8], observer: u32, out: &mut [u8]) -> Result<Written, Refusal>
-    ensures { CallPromise (view_call observer image.now) out.old (told result) out.new }
+    ensures { CallPromise (view_call observer image.now) out.old (as_answer result) out.new }
 {
     let observer = monitor::check_observer(observer)?;
+    check(image)?;
     let mut table = Table::new();
-    load(&mut table, image)?;
+    loader::load(&mut table, image);
     let turn = image::turn_slot(image);
     write_answer(out, &table, image, turn, observer, 0)
 }
 
 // Writes an image again as it was read: for label 15 the view is the image.
 pub fn rewrite(image: &[u8], out: &mut [u8]) -> Result<Written, Refusal>
-    ensures { CallPromise (rewrite_call image.now) out.old (told result) out.new }
+    ensures { CallPromise (rewrite_call image.now) out.old (as_answer result) out.new }
 {
     view(image, 15, out)
 }
@@ -98,11 +90,12 @@ fn check_count(count: u64) -> Result<(), Refusal>
 
 // Writes the image after this many turns, and tells how many of them met a live task.
 pub fn turns(image: &[u8], count: u64, out: &mut [u8]) -> Result<Written, Refusal>
-    ensures { CallPromise (turns_call count image.now) out.old (told result) out.new }
+    ensures { CallPromise (turns_call count image.now) out.old (as_answer result) out.new }
 {
     check_count(count)?;
+    check(image)?;
     let mut table = Table::new();
-    load(&mut table, image)?;
+    loader::load(&mut table, image);
     let turn = image::turn_slot(image);
     let ran = turn::turns(&mut table, image::program(image), turn, count);
     write_answer(out, &table, image, ran.turn, 15, ran.busy)
@@ -129,11 +122,12 @@ pub fn post(
     value: u32,
     out: &mut [u8],
 ) -> Result<Posted, Refusal>
-    ensures { PostPromise slot label value image.now out.old (told_post result) out.new }
+    ensures { PostPromise slot label value image.now out.old (as_post_answer result) out.new }
 {
     check_post(slot, label)?;
+    check(image)?;
     let mut table = Table::new();
-    load(&mut table, image)?;
+    loader::load(&mut table, image);
     let message = Message {
         label: label as u8,
         sender: image::HOST,

@@ -1,18 +1,19 @@
 -- The arms of a match over the code: one law serves every arm, whatever their number.
 use Prim.Native.Nat.{ℕ}
 use mathlib.Core.Path.{◌≡◌, refl}
-use mathlib.Core.Bool.{Bool, false, and-true}
+use mathlib.Core.Bool.{and-true}
 use mathlib.Core.List.{List, [], ◌∷◌}
 use borrow.Author.Tests.{ne_eqb}
+use Rattle.std.specs.Prelude.{Option, None}
 use Rattle.instruction.specs.declared.Instruction.{Instruction}
 use Rattle.instruction.specs.declared.Instruction.TheVariants.{End}
-use Rattle.instruction.specs.Table.{Row, table, by_code}
-use Rattle.instruction.specs.Inner.{admitted_by, admitted, form_in, form_of}
+use Rattle.instruction.specs.Table.{Row, table, by_code, decode_by, decode}
+use Rattle.instruction.specs.Inner.{form_in, form_of}
 
 -- where the code is the number k, the table computes to k's row
-pub admitted_at : (t : Bool) (n code k a b c : ℕ) → code ≡ k → t ≡ by_code (admitted_by n a b c) false table k → t ≡ admitted n code a b c
-unfolding admitted
-admitted_at t n code k a b c e h = rw e h
+pub decode_at : (d : Option Instruction) (n code k a b c : ℕ) → code ≡ k → d ≡ by_code (decode_by n a b c) None table k → d ≡ decode n code a b c
+unfolding decode
+decode_at d n code k a b c e h = rw e h
 
 pub form_at : (i : Instruction) (code k a b c : ℕ) → code ≡ k → i ≡ form_in table k a b c → i ≡ form_of code a b c
 unfolding form_of
@@ -37,12 +38,12 @@ no_row f d P (r ∷ rs) code p =
 pub none_by_code : {A : Type 0} (f : Row → A) (d : A) (code : ℕ) → NoRow (Unit {0}) code table → d ≡ by_code f d table code
 none_by_code f d = no_row f d (Unit {0}) table
 
-pub admitted_none : (n code a b c : ℕ) → NoRow (Unit {0}) code table → false ≡ admitted n code a b c
-unfolding admitted
-admitted_none n code a b c = none_by_code (admitted_by n a b c) false code
+pub decode_none : (n code a b c : ℕ) → NoRow (Unit {0}) code table → None ≡ decode n code a b c
+unfolding decode
+decode_none n code a b c = none_by_code (decode_by n a b c) None code
 
 -- an operand that may be any byte is not tested in the code
-pub ruleset by_row = (admitted_at, and-true, admitted_none)
+pub ruleset by_row = (decode_at, and-true, decode_none)
 
 -- all rows but the last, and the form of the last
 abbrev pub but_last : List Row → List Row
@@ -67,4 +68,4 @@ pub form_last : (code a b c : ℕ) → NoRow (Unit {0}) code (but_last table) �
 unfolding form_of
 form_last = rows_last (Unit {0}) table
 
-pub ruleset by_row_form = (form_at, form_last)
+pub ruleset by_form = (form_at, form_last)

@@ -15,7 +15,7 @@ use Rattle.instruction.specs.declared.Instruction.{Instruction}
 use Rattle.instruction.specs.declared.Instruction.TheVariants.{End, Set, Copy, Add, Subtract, Go, Zero, Raise, Send, Take, Poll, Sandbox, Identity, Count}
 use Rattle.instruction.specs.Table.{Operand, R, T, L, S, any, blank, admits, Row, table, by_code, decode_by, decode}
 use Rattle.instruction.specs.Program.{is_legal}
-use Rattle.instruction.specs.Inner.{admitted_by, admitted, form_in, form_of}
+use Rattle.instruction.specs.Inner.{form_in, form_of}
 use Rattle.instruction.proofs.Encode.{encode}
 
 -- ---- bytes to an instruction and back
@@ -68,26 +68,26 @@ encode_decode = rows_back table written
 
 -- ---- bytes that decode, to the form of their code
 
--- the form of the code, where its row admits the operands
-rows_split : (rs : List Row) (n code a b c : ℕ)
-    → by_code (decode_by n a b c) None rs code ≡ then_some (by_code (admitted_by n a b c) false rs code) (form_in rs code a b c)
-rows_split [] n code a b c = refl
-rows_split (r ∷ []) n code a b c = split (eqb code r.code) (λ t. rw t) (λ t. rw t)
-rows_split (r ∷ q ∷ rs) n code a b c =
-    let ih = rows_split (q ∷ rs) n code a b c in
-    split (eqb code r.code) (λ t. rw t) (λ t. rw t ih)
+row_form : (t : Bool) (i : Instruction) → is_legal (then_some t i) ≡ true → then_some t i ≡ Some i
+row_form true i e = refl
+row_form false i e = cc
 
-pub decode_split : (n code a b c : ℕ) → decode n code a b c ≡ then_some (admitted n code a b c) (form_of code a b c)
-unfolding decode admitted form_of
-decode_split = rows_split table
-
-legal_form : (t : Bool) (i : Instruction) → is_legal (then_some t i) ≡ true → then_some t i ≡ Some i
-legal_form true i e = refl
-legal_form false i e = cc
+rows_form : (rs : List Row) (n code a b c : ℕ) → is_legal (by_code (decode_by n a b c) None rs code) ≡ true
+    → by_code (decode_by n a b c) None rs code ≡ Some (form_in rs code a b c)
+rows_form [] n code a b c e = cc
+rows_form (r ∷ []) n code a b c e =
+    split (eqb code r.code)
+    (λ t. rw t (row_form (admits r.a n a && admits r.b n b && admits r.c n c) (r.form a b c) (rw t at e)))
+    (λ t. cc (rw t at e))
+rows_form (r ∷ q ∷ rs) n code a b c e =
+    let ih = rows_form (q ∷ rs) n code a b c in
+    split (eqb code r.code)
+    (λ t. rw t (row_form (admits r.a n a && admits r.b n b && admits r.c n c) (r.form a b c) (rw t at e)))
+    (λ t. rw t (ih (rw t at e)))
 
 pub decode_form : (n code a b c : ℕ) → is_legal (decode n code a b c) ≡ true → decode n code a b c ≡ Some (form_of code a b c)
-decode_form n code a b c e =
-    rw decode_split (legal_form (admitted n code a b c) (form_of code a b c) (rw decode_split at e))
+unfolding decode form_of
+decode_form = rows_form table
 
 -- ---- an instruction to bytes and back
 

@@ -17,7 +17,7 @@ use Rattle.instruction.proofs.Program.{at_within, legal_at}
 use Rattle.image.specs.Refusal.{◌then◌, unless, instructions_number}
 use Rattle.image.proofs.Refusal.{then_left, then_right, unless_none, instructions_number_lem}
 use Rattle.monitor.specs.declared.Answer.{Answer}
-use Rattle.monitor.specs.Calls.{CallPromise, told}
+use Rattle.monitor.specs.Calls.{CallPromise}
 use Rattle.monitor.proofs.Calls.{busy_0}
 use Rattle.listing.specs.Listing.{Line, line, Spells, is_bytes, is_admitted, lines_number, line_bytes, program_bytes, assemble_call, no_list_call, AssemblePromise, line_of, lines_of}
 use Rattle.listing.specs.Inner.{Kept, kept_number}

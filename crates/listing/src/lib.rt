@@ -5,7 +5,7 @@
 ghost use Rattle.std.specs.Prelude.{◌≤◌, ◌≡◌, length};
 ghost use Rattle.wire.specs.Output.{overwrite};
 ghost use Rattle.refusal.specs.Refusal.{number};
-ghost use Rattle.monitor.specs.Calls.{told, CallPromise};
+ghost use Rattle.monitor.specs.Calls.{as_answer, CallPromise};
 ghost use Rattle.listing.specs.Listing.{line_text, listing_text, line_of, AssemblePromise, part_number, lines_of, disassemble_call};
 ghost use Rattle.listing.specs.Inner.{read_line, told_bytes, kept, IsRead, kept_number};
 
@@ -111,7 +111,7 @@ fn check_lines(program: &[u8], read: ReadText) -> Result<(), Refusal>
 
 // Writes the program of a text.
 pub fn assemble(text: &[u8], out: &mut [u8]) -> Result<Written, Refusal>
-    ensures { AssemblePromise text.now out.old (told result) out.new }
+    ensures { AssemblePromise text.now out.old (as_answer result) out.new }
 {
     let mut program: [u8; PROGRAM_MAX] = [0; PROGRAM_MAX];
     let read = read_text(&mut program, text)?;
@@ -163,7 +163,7 @@ fn put_lines(out: &mut [u8], program: &[u8]) -> usize
 
 // Writes the text of a program. It is made in a buffer of its own first: only then is its length known.
 pub fn disassemble(program: &[u8], out: &mut [u8]) -> Result<Written, Refusal>
-    ensures { CallPromise (disassemble_call program.now) out.old (told result) out.new }
+    ensures { CallPromise (disassemble_call program.now) out.old (as_answer result) out.new }
 {
     check_program(program)?;
     let mut text: [u8; LISTING_MAX] = [0; LISTING_MAX];

@@ -24,7 +24,7 @@ use Rattle.image.specs.Refusal.{observer_number, post_number, ◌then◌, unless
 use Rattle.image.proofs.Refusal.{then_stop, then_left, then_right, then_holds, unless_holds, unless_none, unless_given, Listed, listed_not}
 use Rattle.monitor.specs.declared.Answer.{Answer}
 use Rattle.monitor.specs.declared.Written.{Written}
-use Rattle.monitor.specs.Calls.{Call, call_number, refusal, told, output_answer, call_answer, call_output, CallPromise}
+use Rattle.monitor.specs.Calls.{Call, call_number, refusal, as_answer, output_answer, call_answer, call_output, CallPromise}
 use Rattle.monitor.specs.Claims.{Accepted, Exactly, NumbersByCause, WritesItsAnswer, TellTheSame}
 
 -- ---- which number was given: the arguments' a, the input's i, or 13 where the test t of the output fails
@@ -255,7 +255,7 @@ module _ (c : Call) (out : List ℕ) where
       rw (told, ← beyond, then_stop k some (c.input_number then unless (leb (length c.bytes) (length out)) 13), ne_eqb k 0 some) (refl, refl)
 
   -- what its code returns there
-  pub beyond_told : (r : Result Written Refusal) (e : Refusal) → IsErrAnd r (λ y. y ≡ e) → number_of e ≡ c.argument_number → CallPromise c out (told r) out
+  pub beyond_told : (r : Result Written Refusal) (e : Refusal) → IsErrAnd r (λ y. y ≡ e) → number_of e ≡ c.argument_number → CallPromise c out (as_answer r) out
   beyond_told r e is number = let p = err_from_is_err_and r is in rw (p.1, p.2) (call_beyond number (refusal_some e) refl)
 
   -- ---- a call whose arguments are within their limits
@@ -269,7 +269,7 @@ module _ (c : Call) (out : List ℕ) where
         rw (told, argument, ← number, then_stop k refused (unless (leb (length c.bytes) (length out)) 13), ne_eqb k 0 refused) (refl, refl)
 
     -- what its code returns there
-    pub refused_told : (r : Result Written Refusal) (e : Refusal) → IsErrAnd r (λ y. y ≡ e) → number_of e ≡ c.input_number → CallPromise c out (told r) out
+    pub refused_told : (r : Result Written Refusal) (e : Refusal) → IsErrAnd r (λ y. y ≡ e) → number_of e ≡ c.input_number → CallPromise c out (as_answer r) out
     refused_told r e is number = let p = err_from_is_err_and r is in rw (p.1, p.2) (call_refused number (refusal_some e) refl)
 
     -- what it reads is accepted, and its bytes are written where the output has room for them

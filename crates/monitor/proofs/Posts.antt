@@ -16,7 +16,7 @@ use Rattle.image.specs.Refusal.{post_number, image_number}
 use Rattle.monitor.specs.declared.Answer.{Answer}
 use Rattle.monitor.specs.declared.Written.{Written}
 use Rattle.monitor.specs.declared.Posted.{Posted}
-use Rattle.monitor.specs.Calls.{call_number, call_answer, told, told_post, CallPromise, post_call, post_delivered, PostPromise}
+use Rattle.monitor.specs.Calls.{call_number, call_answer, as_answer, as_post_answer, CallPromise, post_call, post_delivered, PostPromise}
 use Rattle.monitor.proofs.Calls.{answer_number, refusal_some, call_beyond, call_refused}
 
 module _ (slot label value : ℕ) (image out : List ℕ) where
@@ -35,22 +35,22 @@ module _ (slot label value : ℕ) (image out : List ℕ) where
       → a.number ≡ call_number (post_call slot label value image) out
   number_is p = ap (λ (x : Answer). x.number) p.0 ∙ answer_number (post_call slot label value image) out
 
-  pub post_told : (w : Written) (joined : Bool) {after : List ℕ} → CallPromise (post_call slot label value image) out (told (Ok w)) after
+  pub post_told : (w : Written) (joined : Bool) {after : List ℕ} → CallPromise (post_call slot label value image) out (as_answer (Ok w)) after
       → joined ≡ delivered slot label value (state_of image)
-      → PostPromise slot label value image out (told_post (Ok (record { written = w; delivered = joined }))) after
+      → PostPromise slot label value image out (as_post_answer (Ok (record { written = w; delivered = joined }))) after
   post_told w joined p same = (p, rw (← number_is p) same)
 
   -- a refused one, as `?` leaves it
   module _ (r : Result Posted Refusal) (e : Refusal) (is : IsErrAnd r (λ y. y ≡ e)) where
-    pub post_refused : {after : List ℕ} → CallPromise (post_call slot label value image) out (told (Err e)) after
-        → PostPromise slot label value image out (told_post r) after
+    pub post_refused : {after : List ℕ} → CallPromise (post_call slot label value image) out (as_answer (Err e)) after
+        → PostPromise slot label value image out (as_post_answer r) after
     post_refused p =
         let q = err_from_is_err_and r is in
         rw (q.1, q.2) (p, rw (← number_is p, ne_eqb (number_of e) 0 (refusal_some e)))
 
     -- for its arguments, and for its image
-    pub post_beyond : number_of e ≡ post_number slot label → PostPromise slot label value image out (told_post r) out
+    pub post_beyond : number_of e ≡ post_number slot label → PostPromise slot label value image out (as_post_answer r) out
     post_beyond number = post_refused (call_beyond (post_call slot label value image) out number (refusal_some e) refl)
 
-    pub post_met : post_number slot label ≡ 0 → number_of e ≡ image_number image → PostPromise slot label value image out (told_post r) out
+    pub post_met : post_number slot label ≡ 0 → number_of e ≡ image_number image → PostPromise slot label value image out (as_post_answer r) out
     post_met within number = post_refused (call_refused (post_call slot label value image) out within number (refusal_some e) refl)

@@ -3,12 +3,14 @@
 use Prim.Native.Nat.{ℕ, ◌^◌, ◌<◌, ◌≤◌}
 use mathlib.Core.Path.{◌≡◌, refl}
 use mathlib.Core.List.{List, [], ◌∷◌}
+use mathlib.Core.Bool.{cond}
+use lib.Dec.{leb}
 use lib.ListN.{length}
 use Rattle.std.specs.Result.{IfOk}
-use Rattle.wire.specs.Inner.{written}
+use Rattle.wire.specs.Output.{overwrite}
 use Rattle.refusal.specs.Refusal.{number}
 use Rattle.image.specs.Refusal.{observer_number}
-use Rattle.monitor.specs.Calls.{Call, call_answer, call_output, told, told_post, output_answer}
+use Rattle.monitor.specs.Calls.{Call, call_answer, call_output, as_answer, as_post_answer, output_answer}
 use Rattle.monitor.specs.CallList.{Request, ask_turns, ask_post, HostCall, image_after, request_call, Fits, KeptPromises}
 use Rattle.monitor.specs.Claims.{Made}
 use Rattle.monitor.proofs.Keeps.{Keeps, call_of, argument_of, target_of, answer_of, size_of, busy_of, room_of}
@@ -29,22 +31,23 @@ use Rattle.monitor.proofs.write_answer.Symbol as WriteAnswerCode
 use Rattle.monitor.proofs.write_answer.Met as WriteAnswerMet
 
 module _ {M : Type 1} where
-  pub told_keeps : Keeps M Told.ended ToldCode.code ToldCode.name (λ κs a r e. r ≡ told (call_of a))
+  pub told_keeps : Keeps M Told.ended ToldCode.code ToldCode.name (λ κs a r e. r ≡ as_answer (call_of a))
   told_keeps = ToldMet.met
 
-  pub post_told_keeps : Keeps M PostTold.ended PostToldCode.code PostToldCode.name (λ κs a r e. r ≡ told_post (call_of a))
+  pub post_told_keeps : Keeps M PostTold.ended PostToldCode.code PostToldCode.name (λ κs a r e. r ≡ as_post_answer (call_of a))
   post_told_keeps = PostToldMet.met
 
   pub check_observer_keeps : Keeps M CheckObserver.ended CheckObserverCode.code CheckObserverCode.name
       (λ κs a r e. (number r ≡ observer_number (argument_of a)) × IfOk r (λ label. label ≡ argument_of a))
   check_observer_keeps = CheckObserverMet.met
 
-  pub end_call_keeps : Keeps M EndCall.ended EndCallCode.code EndCallCode.name (λ κs a r e. told r ≡ output_answer (size_of a) (busy_of a) (room_of a))
+  pub end_call_keeps : Keeps M EndCall.ended EndCallCode.code EndCallCode.name (λ κs a r e. as_answer r ≡ output_answer (size_of a) (busy_of a) (room_of a))
   end_call_keeps = EndCallMet.met
 
   pub write_answer_keeps : Keeps M WriteAnswer.ended WriteAnswerCode.code WriteAnswerCode.name
-      (λ κs a r e. (told r ≡ output_answer (length (answer_of a).now) 0 (length (target_of a).now))
-      × ((target_of e).now ≡ written (answer_of a).now (target_of a).now))
+      (λ κs a r e. (as_answer r ≡ output_answer (length (answer_of a).now) 0 (length (target_of a).now))
+      × ((target_of e).now
+      ≡ cond (leb (length (answer_of a).now) (length (target_of a).now)) (overwrite (answer_of a).now (target_of a).now) (target_of a).now))
   write_answer_keeps = WriteAnswerMet.met
 
 -- ---- lists of calls that keep the promises: none, and one with any output ahead of others

@@ -30,9 +30,9 @@ abbrev pub refusal : ℕ → Answer
 refusal n = record { number = n; length = 0; busy = 0 }
 
 -- what a call tells by what its code returned
-abbrev pub told : Result Written Refusal → Answer
-told (Ok w) = record { number = 0; length = w.length; busy = w.busy }
-told (Err r) = refusal (number_of r)
+abbrev pub as_answer : Result Written Refusal → Answer
+as_answer (Ok w) = record { number = 0; length = w.length; busy = w.busy }
+as_answer (Err r) = refusal (number_of r)
 
 unfoldable pub call_answer : Call → List ℕ → Answer
 call_answer c out =
@@ -86,9 +86,9 @@ PostPromise slot label value image out told after =
     CallPromise (post_call slot label value image) out told.answer after × (told.delivered ≡ post_delivered slot label value image out)
 
 -- what a post tells by what its code returned
-abbrev pub told_post : Result Posted Refusal → PostAnswer
-told_post (Ok p) = record { answer = told (Ok p.written); delivered = p.delivered }
-told_post (Err r) = record { answer = refusal (number_of r); delivered = false }
+abbrev pub as_post_answer : Result Posted Refusal → PostAnswer
+as_post_answer (Ok p) = record { answer = as_answer (Ok p.written); delivered = p.delivered }
+as_post_answer (Err r) = record { answer = refusal (number_of r); delivered = false }
 
 -- ---- view: the view for label v
 

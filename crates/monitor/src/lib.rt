@@ -2,11 +2,11 @@
 // above.
 #![tactic(auto)]
 
-ghost use Rattle.std.specs.Prelude.{◌≡◌, length, IfOk};
-ghost use Rattle.wire.specs.Inner.{written};
+ghost use Rattle.std.specs.Prelude.{◌≡◌, cond, leb, length, IfOk};
+ghost use Rattle.wire.specs.Output.{overwrite};
 ghost use Rattle.refusal.specs.Refusal.{number};
 ghost use Rattle.image.specs.Refusal.{observer_number};
-ghost use Rattle.monitor.specs.Calls.{output_answer, told, told_post};
+ghost use Rattle.monitor.specs.Calls.{output_answer, as_answer, as_post_answer};
 
 use refusal::Refusal;
 
@@ -41,7 +41,7 @@ pub struct Posted {
 }
 
 impl From<Result<Written, Refusal>> for Answer {
-    ghost from_gives = { λ call answer. answer ≡ told call };
+    ghost from_gives = { λ call answer. answer ≡ as_answer call };
 
     fn from(call: Result<Written, Refusal>) -> Answer {
         match call {
@@ -60,7 +60,7 @@ impl From<Result<Written, Refusal>> for Answer {
 }
 
 impl From<Result<Posted, Refusal>> for PostAnswer {
-    ghost from_gives = { λ post answer. answer ≡ told_post post };
+    ghost from_gives = { λ post answer. answer ≡ as_post_answer post };
 
     fn from(post: Result<Posted, Refusal>) -> PostAnswer {
         match post {
@@ -89,13 +89,10 @@ pub fn check_observer(observer: u32) -> Result<u8, Refusal>
 
 // Ends a call that has written `size` bytes if the output has room for them, and refuses it where it has not.
 pub fn end_call(size: usize, busy: u64, room: usize) -> Result<Written, Refusal>
-    ensures { told result ≡ output_answer size busy room }
+    ensures { as_answer result ≡ output_answer size busy room }
 {
     if size <= room {
-        Ok(Written {
-            length: size,
-            busy: busy,
-        })
+        Ok(Written { length: size, busy })
     } else {
         Err(Refusal::Output)
     }
@@ -103,8 +100,8 @@ pub fn end_call(size: usize, busy: u64, room: usize) -> Result<Written, Refusal>
 
 // Ends a call whose answer is made: writes it if the output has room for it, and refuses the call where it has not.
 pub fn write_answer(out: &mut [u8], answer: &[u8]) -> Result<Written, Refusal>
-    ensures { (told result ≡ output_answer (length answer.now) 0 (length out.old))
-        × (out.new ≡ written answer.now out.old) }
+    ensures { (as_answer result ≡ output_answer (length answer.now) 0 (length out.old))
+        × (out.new ≡ cond (leb (length answer.now) (length out.old)) (overwrite answer.now out.old) out.old) }
 {
     wire::copy(out, answer);
     end_call(answer.len(), 0, out.len())

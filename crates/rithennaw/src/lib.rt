@@ -8,7 +8,7 @@ ghost use Rattle.std.specs.Prelude.{◌≡◌, cond};
 ghost use Rattle.wire.specs.Lists.{Bytes};
 ghost use Rattle.image.specs.Refusal.{image_number};
 ghost use Rattle.image.specs.Part.{record_extent};
-ghost use Rattle.monitor.specs.Calls.{told, call_answer, rewrite_call, turns_call, post_call, post_delivered, view_call};
+ghost use Rattle.monitor.specs.Calls.{as_answer, call_answer, rewrite_call, turns_call, post_call, post_delivered, view_call};
 ghost use Rattle.monitor.specs.CallList.{ask_post, Fits};
 ghost use Rattle.sheet.specs.Sheet.{sheet_call};
 ghost use Rattle.listing.specs.Listing.{AssemblePromise, disassemble_call};
@@ -19,7 +19,7 @@ use refusal::Refusal;
 
 // Tells the length of a call that runs no turn, and then its number.
 fn tell(call: Result<Written, Refusal>, length: &mut usize) -> u8
-    ensures { (result ≡ (told call).number) × (length.new ≡ (told call).length) }
+    ensures { (result ≡ (as_answer call).number) × (length.new ≡ (as_answer call).length) }
 {
     let answer = Answer::from(call);
     *length = answer.length;

@@ -20,7 +20,7 @@ use Rattle.refusal.specs.declared.Refusal.{Refusal}
 use Rattle.refusal.specs.Refusal.{number_of}
 use Rattle.monitor.specs.declared.Answer.{Answer}
 use Rattle.monitor.specs.declared.Written.{Written}
-use Rattle.monitor.specs.Calls.{call_number, call_answer, call_output, told, CallPromise}
+use Rattle.monitor.specs.Calls.{call_number, call_answer, call_output, as_answer, CallPromise}
 use Rattle.monitor.proofs.Calls.{answer_number, refusal_some}
 use Rattle.sheet.specs.Sheet.{sheet_bytes, sheet_call, refusal_line, printed_for, printed}
 use Rattle.sheet.proofs.Sheet.{sheet_fits, refusal_length}
@@ -85,14 +85,14 @@ module _ {input image : List ℕ} {v : ℕ} (is : input ≡ v ∷ image) (most :
   bytes : Bytes image
   bytes = rw is at (every_drop IsByte 1 input (every_of IsByte 0 input fit))
 
-  pub sheet_printed : (w : Written) {after : List ℕ} → CallPromise (sheet_call v image) output (told (Ok w)) after
+  pub sheet_printed : (w : Written) {after : List ℕ} → CallPromise (sheet_call v image) output (as_answer (Ok w)) after
       → (w.length ≡ length (printed input)) × (w.length ≤ sheet_room) × (after ≡ overwrite (printed input) output)
   sheet_printed w p =
       let law = printed_accepted v image output bytes (omega (arith, room)) (sym (ap (λ (a : Answer). a.number) p.0)) in
       let long = ap (λ (a : Answer). a.length) p.0 ∙ law.0 in
       rw parts (long, omega (arith, long, law.2), p.1 ∙ law.1)
 
-  pub refusal_printed : (e : Refusal) {after : List ℕ} → CallPromise (sheet_call v image) output (told (Err e)) after
+  pub refusal_printed : (e : Refusal) {after : List ℕ} → CallPromise (sheet_call v image) output (as_answer (Err e)) after
       → (printed input ≡ refusal_line (number_of e)) × (after ≡ output) × (length (printed input) ≤ 12)
   refusal_printed e p =
       let same = ap (λ (a : Answer). a.number) p.0 in

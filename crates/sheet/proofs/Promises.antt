@@ -4,7 +4,7 @@ use mathlib.Core.Path.{◌≡◌}
 use lib.ListN.{length}
 use Rattle.wire.specs.Output.{overwrite}
 use Rattle.machine.specs.Limits.{sheet_room}
-use Rattle.monitor.specs.Calls.{told, CallPromise}
+use Rattle.monitor.specs.Calls.{as_answer, CallPromise}
 use Rattle.monitor.proofs.Keeps.{Keeps, image_of, observer_of, output_of, sole_output_of, input_of}
 use Rattle.sheet.specs.Sheet.{sheet_call, printed}
 use Rattle.sheet.specs.contracts.write as Write
@@ -16,7 +16,7 @@ use Rattle.sheet.proofs.print.Met as PrintMet
 
 module _ {M : Type 1} where
   pub write_keeps : Keeps M Write.ended WriteCode.code WriteCode.name
-      (λ κs a r e. CallPromise (sheet_call (observer_of a) (image_of a).now) (output_of a).now (told r) (output_of e).now)
+      (λ κs a r e. CallPromise (sheet_call (observer_of a) (image_of a).now) (output_of a).now (as_answer r) (output_of e).now)
   write_keeps = WriteMet.met
 
   pub print_keeps : Keeps M Print.ended PrintCode.code PrintCode.name

@@ -8,7 +8,7 @@ ghost use Rattle.refusal.specs.Refusal.{number_of};
 ghost use Rattle.machine.specs.Limits.{sheet_room};
 ghost use Rattle.table.specs.Table.{slots_in};
 ghost use Rattle.table.specs.Change.{Used};
-ghost use Rattle.monitor.specs.Calls.{output_answer, told, CallPromise};
+ghost use Rattle.monitor.specs.Calls.{output_answer, as_answer, CallPromise};
 ghost use Rattle.sheet.specs.Sheet.{sheet_call, refusal_line, printed};
 ghost use Rattle.sheet.specs.Inner.{seen_task_line, seen_line, seen_lines, seen_sheet};
 
@@ -86,7 +86,7 @@ impl View<'_> {
     // own first: only then is its length known.
     fn write_answer(&self, out: &mut [u8]) -> Result<Written, Refusal>
         requires { length (seen_sheet self.now) ≤ sheet_room }
-        ensures { (told result ≡ output_answer (length (seen_sheet self.now)) 0 (length out.old))
+        ensures { (as_answer result ≡ output_answer (length (seen_sheet self.now)) 0 (length out.old))
             × (out.new ≡ written (seen_sheet self.now) out.old) }
     {
         let mut text: [u8; SHEET_MAX] = [0; SHEET_MAX];
@@ -97,7 +97,7 @@ impl View<'_> {
 
 // Writes the sheet of an image's view for an observer.
 pub fn write(image: &[u8], observer: u32, out: &mut [u8]) -> Result<Written, Refusal>
-    ensures { CallPromise (sheet_call observer image.now) out.old (told result) out.new }
+    ensures { CallPromise (sheet_call observer image.now) out.old (as_answer result) out.new }
 {
     let observer = monitor::check_observer(observer)?;
     judge::check(image)?;

@@ -53,11 +53,11 @@ returns-in_err-check_post c =
     post_beyond a.slot a.label a.value a.image.now a.out.now r.result _ r.ensures.1 c.in_err-check_post.ensures
 
 -- a refused image
-pub returns-in_err-load : goal.returns-in_err-load
-returns-in_err-load c =
+pub returns-in_err-check : goal.returns-in_err-check
+returns-in_err-check c =
     let a = c.args in
-    let r = c.from_residual-in_err-load in
-    post_met a.slot a.label a.value a.image.now a.out.now r.result _ r.ensures.1 (sym c.in_ok-check_post.ensures) c.in_err-load.ensures.0
+    let r = c.from_residual-in_err-check in
+    post_met a.slot a.label a.value a.image.now a.out.now r.result _ r.ensures.1 (sym c.in_ok-check_post.ensures) c.in_err-check.ensures
 
 pub deliver-delivered-requires : goal.deliver-delivered-requires
 deliver-delivered-requires c =
@@ -65,7 +65,7 @@ deliver-delivered-requires c =
     let image = a.image.now in
     let all : Bytes image = every_of IsByte 0 image (λ i. (c.type_inv.image i).fits) in
     let low : a.label ≤ highest_label = (post_within a.slot a.label (sym c.in_ok-check_post.ensures)).1 in
-    rw c.in_ok-load.ensures.1 (valid_room (accepted_valid image all (sym c.in_ok-load.ensures.0)) a.slot a.label low)
+    rw c.load.ensures (valid_room (accepted_valid image all (sym c.in_ok-check.ensures)) a.slot a.label low)
 
 -- an output too short
 pub returns-in_err-written : goal.returns-in_err-written
@@ -74,9 +74,9 @@ returns-in_err-written c =
     let image = a.image.now in
     let all : Bytes image = every_of IsByte 0 image (λ i. (c.type_inv.image i).fits) in
     let none : post_number a.slot a.label ≡ 0 = sym c.in_ok-check_post.ensures in
-    let accepted : image_number image ≡ 0 = sym c.in_ok-load.ensures.0 in
+    let accepted : image_number image ≡ 0 = sym c.in_ok-check.ensures in
     let written = image_posted a.slot a.label a.value image all accepted (post_within a.slot a.label none).1 (omega arith) _ _
-    c.in_ok-load.ensures.1 c.deliver-delivered.ensures.0 c.turn_slot-turn.ensures in
+    c.load.ensures c.deliver-delivered.ensures.0 c.turn_slot-turn.ensures in
     let r = c.from_residual-in_err-written in
     post_refused a.slot a.label a.value image a.out.now r.result _ r.ensures.1 (call_accepted _ _ none accepted written refl c.in_err-written.ensures)
 
@@ -86,10 +86,10 @@ returns c =
     let image = a.image.now in
     let all : Bytes image = every_of IsByte 0 image (λ i. (c.type_inv.image i).fits) in
     let none : post_number a.slot a.label ≡ 0 = sym c.in_ok-check_post.ensures in
-    let accepted : image_number image ≡ 0 = sym c.in_ok-load.ensures.0 in
+    let accepted : image_number image ≡ 0 = sym c.in_ok-check.ensures in
     let low : a.label ≤ highest_label = (post_within a.slot a.label none).1 in
     let d = c.deliver-delivered in
-    let written = image_posted a.slot a.label a.value image all accepted low (omega arith) _ _ c.in_ok-load.ensures.1 d.ensures.0 c.turn_slot-turn.ensures in
-    let told = joined a.slot a.label a.value image all accepted low (omega arith) _ _ c.in_ok-load.ensures.1 d.ensures.0 d.ensures.1 in
+    let written = image_posted a.slot a.label a.value image all accepted low (omega arith) _ _ c.load.ensures d.ensures.0 c.turn_slot-turn.ensures in
+    let told = joined a.slot a.label a.value image all accepted low (omega arith) _ _ c.load.ensures d.ensures.0 d.ensures.1 in
     post_told a.slot a.label a.value image a.out.now c.in_ok-written.written d.result
     (call_accepted _ _ none accepted written refl c.in_ok-written.ensures) told

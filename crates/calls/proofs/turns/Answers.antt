@@ -17,26 +17,26 @@ pub returns-in_err-check_count : goal.returns-in_err-check_count
 returns-in_err-check_count c = beyond_told _ _ c.from_residual.result _ c.from_residual.ensures.1 c.in_err-check_count.ensures
 
 -- a refused image
-pub returns-in_err-load : goal.returns-in_err-load
-returns-in_err-load c =
-    let r = c.from_residual-in_err-load in
-    refused_told _ _ (sym c.in_ok-check_count.ensures) r.result _ r.ensures.1 c.in_err-load.ensures.0
+pub returns-in_err-check : goal.returns-in_err-check
+returns-in_err-check c =
+    let r = c.from_residual-in_err-check in
+    refused_told _ _ (sym c.in_ok-check_count.ensures) r.result _ r.ensures.1 c.in_err-check.ensures
 
 pub turns-ran-requires : goal.turns-ran-requires
 turns-ran-requires c =
     let image = c.args.image.now in
     let all : Bytes image = every_of IsByte 0 image (λ i. (c.type_inv.image i).fits) in
     let same : running c.program.result.now c.turn_slot-turn.result c.load.new.table ≡ with_version 2 (state_of image) =
-    state_loaded image _ _ _ c.program.ensures c.turn_slot-turn.ensures c.in_ok-load.ensures.1 in
-    loaded_valid image all (sym c.in_ok-load.ensures.0) same
+    state_loaded image _ _ _ c.program.ensures c.turn_slot-turn.ensures c.load.ensures in
+    loaded_valid image all (sym c.in_ok-check.ensures) same
 
 pub returns : goal.returns
 returns c =
     let image = c.args.image.now in
     let all : Bytes image = every_of IsByte 0 image (λ i. (c.type_inv.image i).fits) in
-    let accepted : image_number image ≡ 0 = sym c.in_ok-load.ensures.0 in
+    let accepted : image_number image ≡ 0 = sym c.in_ok-check.ensures in
     let same : running c.program.result.now c.turn_slot-turn.result c.load.new.table ≡ with_version 2 (state_of image) =
-    state_loaded image _ _ _ c.program.ensures c.turn_slot-turn.ensures c.in_ok-load.ensures.1 in
+    state_loaded image _ _ _ c.program.ensures c.turn_slot-turn.ensures c.load.ensures in
     let r = c.turns-ran in
     let n = c.args.count in
     let told_as = ran_as n image same in

@@ -2,7 +2,7 @@
 use mathlib.Core.Path.{◌≡◌}
 use Rattle.wire.proofs.Lists.{IsByte, every_of}
 use Rattle.monitor.specs.declared.Answer.{Answer}
-use Rattle.monitor.specs.Calls.{told}
+use Rattle.monitor.specs.Calls.{as_answer}
 use Rattle.listing.proofs.Assembled.{assembled_busy}
 use Rattle.rithennaw.proofs.rithennaw_assemble.Goals as goal
 
@@ -15,6 +15,6 @@ returns c =
     let r = c.assemble in
     let a = c.args in
     let bytes = every_of IsByte 0 a.text.now (λ i. (c.type_inv.text i).fits) in
-    let busy = assembled_busy a.text.now a.out.now (told r.result) r.new.out r.ensures in
-    let same = without_busy (told r.result) busy in
+    let busy = assembled_busy a.text.now a.out.now (as_answer r.result) r.new.out r.ensures in
+    let same = without_busy (as_answer r.result) busy in
     (rw (same, ← c.tell.ensures.0, ← c.tell.ensures.1) at r.ensures, bytes)
