@@ -81,10 +81,6 @@ slot_any P none some t s =
     (split (eqb (task_in (window t s)).kind 0) (λ z. rw z none) (λ z. rw z (some (window t s) (eqb-false (task_in (window t s)).kind 0 z)))))
     (λ l. rw (slot_past t s (omega arith)) none)
 
--- a slot whose kind is 0 is unused
-pub kind_none : (t : List ℕ) (s : ℕ) → (task_at (slots_of_words t) s).kind ≡ 0 → slot_at (slots_of_words t) s ≡ unused
-kind_none = slot_any (λ x. (task_or x).kind ≡ 0 → x ≡ unused) (λ _. refl) (λ w some none. absurd (some none))
-
 -- a task in the table has eight registers
 pub used_registers : (t : List ℕ) (s : ℕ) (k : Task) → slot_at (slots_of_words t) s ≡ used k → length k.registers ≡ 8
 unfolding task_in

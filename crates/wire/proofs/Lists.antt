@@ -287,13 +287,6 @@ module _ {A : Type 0} (p : A → Bool) where
       let ih = first_here xs i d (omega arith) t in
       split (p x) (λ e. rw e (λ l. absurd (omega arith))) (λ e. rw e (λ l. ap suc (ih (omega arith))))
 
-  pub first_next : (xs : List A) (i : ℕ) (d : A) → i < length xs → p (get_or xs i d) ≡ false → i ≤ first_index p xs → i + 1 ≤ first_index p xs
-  first_next [] i d h t = absurd (not-suc-le-zero h)
-  first_next (x ∷ xs) zero d h t = rw t (λ l. omega arith)
-  first_next (x ∷ xs) (suc i) d h t =
-      let ih = first_next xs i d (omega arith) t in
-      split (p x) (λ e. rw e (λ l. absurd (omega arith))) (λ e. rw e (λ l. omega (arith, ih (omega arith))))
-
   -- p fails at each of the first n
   pub first_above : (xs : List A) (n : ℕ) (d : A) → n ≤ length xs → ((k : ℕ) → k < n → p (get_or xs k d) ≡ false) → n ≤ first_index p xs
   first_above xs zero d h f = omega arith

@@ -5,15 +5,13 @@ use mathlib.Core.List.{List, [], ◌++◌, append_assoc, append-nil}
 use native.Mathlib.Nat.{zero-add, le_of_eq}
 use native.Mathlib.Numerals.{add-one}
 use native.Mathlib.Omega.{arith}
-use borrow.Author.Tests.{leb-true, le-leb, lt-leb}
+use borrow.Author.Tests.{le-leb, lt-leb}
 use borrow.Rule.Slice.PartMut.{put_mid}
-use lib.Dec.{leb}
 use lib.ListN.{length, get_or, take, drop, set, length-append, length-drop, drop_of_length-le}
 use lib.Seq.{take-append_seam, drop-append_seam, take_at, drop_at, drop-drop, paste-suc, take_all, sets, sets-eq}
 use Rattle.wire.specs.Output.{overwrite}
 use Rattle.wire.specs.Inner.{written}
 use Rattle.wire.specs.Items.{encode_items}
-use Rattle.wire.proofs.Lists.{split}
 use Rattle.wire.proofs.Items.{items_next}
 
 -- the first bytes are those written
@@ -34,10 +32,6 @@ written_fits w out h = rw (le-leb (length w) (length out) h)
 
 pub written_short : (w out : List ℕ) → length out < length w → written w out ≡ out
 written_short w out h = rw (lt-leb (length w) (length out) h)
-
-pub length_written : (w out : List ℕ) → length (written w out) ≡ length out
-length_written w out =
-    split (leb (length w) (length out)) (λ e. rw e (length_overwrite w out (leb-true (length w) (length out) e))) (λ e. rw e)
 
 -- a copy's next element
 pub copy_next : {A : Type 0} (s d : List A) (i : ℕ) (z : A) → i < length s → i < length d → set (take i s ++ drop i d) i (get_or s i z) ≡ take (i + 1) s ++ drop (i + 1) d
@@ -83,9 +77,6 @@ pub record FrontWritten (w v out xs : List ℕ) (n : ℕ) : Type 0 where
   pub front : xs ≡ overwrite w out
   pub room : length (w ++ v) ≤ length out
 
-pub front_copied : {xs : List ℕ} (w v out : List ℕ) → length (w ++ v) ≤ length out → xs ≡ written w out → FrontWritten w v out xs (length w)
-front_copied w v out room e = record { size = refl; front = e ∙ written_fits w out (omega (arith, length-append w v)); room = room }
-
 module _ {w v out xs : List ℕ} {n : ℕ} (h : FrontWritten w v out xs n) where
   same_size : length xs ≡ length out
   same_size = rw h.front (length_overwrite w out (omega (arith, h.room, length-append w v)))
@@ -101,12 +92,6 @@ module _ {w v out xs : List ℕ} {n : ℕ} (h : FrontWritten w v out xs n) where
   module _ {ys : List ℕ} {r : ℕ} (wrote : (r ≡ length v) × (ys ≡ overwrite v (take (length xs - n) (drop n xs)))) where
     pub both_written : (n + r ≡ length (w ++ v)) × (put_mid n (length xs - n) xs ys ≡ overwrite (w ++ v) out)
     both_written = (omega (arith, h.size, wrote.0, length-append w v), lent w v out n (sym h.size) h.front wrote.1)
-
-    pub both_fit : n + r ≤ length out
-    both_fit = omega (arith, both_written.0, h.room)
-
-    pub both_same : length (put_mid n (length xs - n) xs ys) ≡ length out
-    both_same = ap length both_written.1 ∙ length_overwrite (w ++ v) out h.room
 
 -- a write that has room writes all of v there
 pub lent_fits : {xs ys : List ℕ} (w v out : List ℕ) (a : ℕ) → length w ≡ a → length w + length v ≤ length out
