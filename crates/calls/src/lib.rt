@@ -53,7 +53,7 @@ fn write_answer(
         × (out.new ≡ written (snapshot_bytes table.now image.now turn observer) out.old) }
 {
     let size = snapshot::write(out, table, image, turn, observer);
-    monitor::end_call(size, busy, out.len())
+    monitor::answered(size, busy, out.len())
 }
 
 // Writes the view of an image for an observer.

@@ -103,8 +103,8 @@ fn highest_kind(version: u8) -> u8
     }
 }
 
-// Whether all messages are in range and no label has more than four. The loop has an index: by `chunks_exact`, the check of the
-// longest image takes a seventh longer.
+// Whether all messages are in range and no label has more than four. The loop has an index, by which it is faster than by `chunks_exact`
+// (docs/BENCHMARKS.md). The version goes beside a record's bytes, as in the definition `task_of`.
 #[tactic(auto, using(crate::proofs::Mail::by_message), unfolding(wire::specs::Items::decode_items))]
 fn mail_in_range(version: u8, task: &[u8]) -> bool
     ensures { result ≡ mail_in_range (task_of version task.now).mailbox }
@@ -201,7 +201,7 @@ impl Head {
         self.check_record(image::front_record(b), slot)
     }
 
-    // The sixteen slots.
+    // The sixteen slots. Each begins where the one before it ends, which its own length tells, so what is left goes from step to step.
     #[tactic(auto, using(image::proofs::Walk::slots_first, image::proofs::Walk::slots_done))]
     fn check_slots(self, b: &[u8]) -> Result<(), Refusal>
         ensures { number result ≡ slots_number self.version 16 0 self.instructions b.now }

@@ -26,8 +26,8 @@ fn load_registers(table: &mut Table, slot: SlotNumber, registers: &[u8])
     }
 }
 
-// The planes of the messages' labels, which are gathered from the last to the first. The loop has an index: by `chunks_exact` and
-// `rev`, the longest image takes half longer to load.
+// The planes of the messages' labels, which are gathered from the last to the first. The loop has an index, by which it is faster than by
+// `chunks_exact` and `rev` (docs/BENCHMARKS.md).
 fn label_planes(mailbox: &[u8]) -> LabelPlanes
     requires { length mailbox.now / message_size ≤ mailbox_room }
     ensures { result ≡ planes_of (labels_of mailbox.now) }
@@ -61,7 +61,7 @@ fn load_mailbox(table: &mut Table, slot: SlotNumber, mailbox: &[u8])
     load_mail(table, slot, mailbox);
 }
 
-// Puts the task of a record into a slot.
+// Puts the task of a record into a slot. The version goes beside a record's bytes, as in the definitions `task_of` and `slot_of`.
 fn load_task(table: &mut Table, slot: SlotNumber, version: u8, bytes: &[u8])
     requires { Loadable version bytes.now }
     ensures { slots_in table.new ≡ set (slots_in table.old) slot.number (used (task_of version bytes.now)) }

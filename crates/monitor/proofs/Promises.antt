@@ -23,9 +23,9 @@ use Rattle.monitor.proofs.PostAnswerFromResultPostedRefusal.from.Met as PostTold
 use Rattle.monitor.specs.contracts.check_observer as CheckObserver
 use Rattle.monitor.proofs.check_observer.Symbol as CheckObserverCode
 use Rattle.monitor.proofs.check_observer.Met as CheckObserverMet
-use Rattle.monitor.specs.contracts.end_call as EndCall
-use Rattle.monitor.proofs.end_call.Symbol as EndCallCode
-use Rattle.monitor.proofs.end_call.Met as EndCallMet
+use Rattle.monitor.specs.contracts.answered as Answered
+use Rattle.monitor.proofs.answered.Symbol as AnsweredCode
+use Rattle.monitor.proofs.answered.Met as AnsweredMet
 use Rattle.monitor.specs.contracts.write_answer as WriteAnswer
 use Rattle.monitor.proofs.write_answer.Symbol as WriteAnswerCode
 use Rattle.monitor.proofs.write_answer.Met as WriteAnswerMet
@@ -41,8 +41,8 @@ module _ {M : Type 1} where
       (λ κs a r e. (number r ≡ observer_number (argument_of a)) × IfOk r (λ label. label ≡ argument_of a))
   check_observer_keeps = CheckObserverMet.met
 
-  pub end_call_keeps : Keeps M EndCall.ended EndCallCode.code EndCallCode.name (λ κs a r e. as_answer r ≡ output_answer (size_of a) (busy_of a) (room_of a))
-  end_call_keeps = EndCallMet.met
+  pub answered_keeps : Keeps M Answered.ended AnsweredCode.code AnsweredCode.name (λ κs a r e. as_answer r ≡ output_answer (size_of a) (busy_of a) (room_of a))
+  answered_keeps = AnsweredMet.met
 
   pub write_answer_keeps : Keeps M WriteAnswer.ended WriteAnswerCode.code WriteAnswerCode.name
       (λ κs a r e. (as_answer r ≡ output_answer (length (answer_of a).now) 0 (length (target_of a).now))

@@ -88,7 +88,7 @@ pub fn check_observer(observer: u32) -> Result<u8, Refusal>
 }
 
 // Ends a call that has written `size` bytes if the output has room for them, and refuses it where it has not.
-pub fn end_call(size: usize, busy: u64, room: usize) -> Result<Written, Refusal>
+pub fn answered(size: usize, busy: u64, room: usize) -> Result<Written, Refusal>
     ensures { as_answer result ≡ output_answer size busy room }
 {
     if size <= room {
@@ -104,5 +104,5 @@ pub fn write_answer(out: &mut [u8], answer: &[u8]) -> Result<Written, Refusal>
         × (out.new ≡ cond (leb (length answer.now) (length out.old)) (overwrite answer.now out.old) out.old) }
 {
     wire::copy(out, answer);
-    end_call(answer.len(), 0, out.len())
+    answered(answer.len(), 0, out.len())
 }

@@ -23,7 +23,7 @@ pub const SHEET_MAX: usize = 318;
 // The longest input that the program takes, in bytes.
 pub const INPUT_MAX: usize = 8192;
 
-// ---- a table as an observer sees it
+// ---- a table as an observer sees it: of what snapshot writes of it, the version is not asked for here
 
 #[derive(Clone, Copy)]
 struct View<'a> {
