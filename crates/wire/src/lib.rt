@@ -30,7 +30,7 @@ pub fn drop(s: &[u8], n: usize) -> &[u8]
     &s[n.min(s.len())..]
 }
 
-// The index of the first byte x of s, its length where it has none.
+// The index of the first byte x of s, its length where it has none, as `first_index` says it: what stands ahead of x is then all of s.
 pub fn index_of(s: &[u8], x: u8) -> usize
     ensures { result ≡ first_index (λ y. eqb y x) s.now }
 {
