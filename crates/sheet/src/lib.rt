@@ -61,7 +61,7 @@ impl View<'_> {
         }
     }
 
-    // Writes the lines of all slots: how many bytes.
+    // Writes the lines of all slots: how many bytes. It is a loop of its own, as text's `put_numbers`.
     fn put_lines(&self, out: &mut [u8]) -> usize
         requires { length (seen_lines self.now) ≤ length out.old }
         ensures { (result ≡ length (seen_lines self.now)) × (out.new ≡ overwrite (seen_lines self.now) out.old) }

@@ -106,7 +106,7 @@ impl View<'_> {
         }
     }
 
-    // Writes the messages of a mailbox that the observer sees, each behind the one before.
+    // Writes the messages of a mailbox that the observer sees, each behind the one before: a loop of its own, as text's `put_numbers`.
     fn write_mailbox(&self, out: &mut [u8], slot: SlotNumber)
         requires { Used slot.number (slots_in self.now.table.now) × (length (seen_mailbox self.now slot.number) ≤ length out.old) }
         ensures { out.new ≡ overwrite (seen_mailbox self.now slot.number) out.old }
@@ -177,7 +177,7 @@ impl View<'_> {
         }
     }
 
-    // Writes the sixteen slots, each into the part of the output that begins where the one before it ends.
+    // Writes the sixteen slots, each into the part of the output that begins where the one before it ends: a loop of its own too.
     fn write_slots(&self, out: &mut [u8])
         requires { length (seen_slots self.now) ≤ length out.old }
         ensures { out.new ≡ overwrite (seen_slots self.now) out.old }
