@@ -40,7 +40,8 @@ pub fn record_extent(image: &[u8], slot: u32) -> image::Extent
     judge::record_extent(image, slot as usize)
 }
 
-// Ends a call whose image is accepted: writes the table's tasks as the observer sees them, if the output has room for them.
+// Ends a call whose image is accepted: writes the table's tasks as the observer sees them, if the output has room for them. What it takes
+// comes one by one, since each call has its own.
 fn write_answer(
     out: &mut [u8],
     table: &Table,
@@ -56,7 +57,8 @@ fn write_answer(
     monitor::answered(size, busy, out.len())
 }
 
-// Writes the view of an image for an observer.
+// Writes the view of an image for an observer. An image is checked and loaded by the same three lines in each call, and no function hands
+// the table out, which would copy it.
 pub fn view(image: &[u8], observer: u32, out: &mut [u8]) -> Result<Written, Refusal>
     ensures { CallPromise (view_call observer image.now) out.old (as_answer result) out.new }
 {

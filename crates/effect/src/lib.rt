@@ -1,6 +1,7 @@
 // The effect of each instruction on the table, and a message's delivery. They rest on a slot that is ready for an instruction.
 // That a slot is used or ready is a clause (`GoesOn`, `Ready`) and no type: one that says it would borrow the table, which turns change.
 // Operands are plain bytes, as definitions `decode` and `execute` have them: their range comes with the instruction (`WasDecoded`).
+// Each function takes the table and a slot of it: what says both at once would borrow the table, which it changes.
 #![tactic(auto)]
 
 ghost use Rattle.std.specs.Prelude.{ℕ, ◌≡◌, ◌<◌, ◌≤◌, length, nat_lt, slice_set, is_some, IfSome};

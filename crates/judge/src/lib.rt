@@ -92,7 +92,7 @@ fn is_record_length(version: u8, l: usize) -> bool
     }
 }
 
-// The highest kind in an image of this version.
+// The highest kind in an image of this version, a number as in the definition, since a byte is compared with it.
 fn highest_kind(version: u8) -> u8
     ensures { result ≡ highest_kind version }
 {

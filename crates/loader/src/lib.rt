@@ -1,4 +1,5 @@
 // Loading: the tasks of an accepted image put into the table.
+// Each function takes the table and a slot of it: what says both at once would borrow the table, which it changes.
 #![tactic(auto)]
 
 ghost use Rattle.std.specs.Prelude.{◌/◌, ◌≤◌, ◌<◌, ◌≡◌, length, set};

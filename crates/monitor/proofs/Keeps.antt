@@ -53,10 +53,13 @@ value_of a = a.1.1.1.0
 abbrev pub post_output_of : {A B C D E F : Type 0} → A × (B × (C × (D × (E × F)))) → E
 post_output_of a = a.1.1.1.1.0
 
--- of a program the input, of writer and lister the text and the program, and of what is told what a call returned stand in the
--- image's place
+-- of a program the input, of writer and lister the text and the program, of a refusal its number, and of what is told what a call
+-- returned stand in the image's place
 abbrev pub input_of : {A B : Type 0} → A × B → A
 input_of a = a.0
+
+abbrev pub number_of : {A B : Type 0} → A × B → A
+number_of a = a.0
 
 abbrev pub call_of : {A B : Type 0} → A × B → A
 call_of a = a.0

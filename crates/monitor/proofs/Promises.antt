@@ -10,10 +10,13 @@ use Rattle.std.specs.Result.{IfOk}
 use Rattle.wire.specs.Output.{overwrite}
 use Rattle.refusal.specs.Refusal.{number}
 use Rattle.image.specs.Refusal.{observer_number}
-use Rattle.monitor.specs.Calls.{Call, call_answer, call_output, as_answer, as_post_answer, output_answer}
+use Rattle.monitor.specs.Calls.{Call, refusal, call_answer, call_output, as_answer, as_post_answer, output_answer}
 use Rattle.monitor.specs.CallList.{Request, ask_turns, ask_post, HostCall, image_after, request_call, Fits, KeptPromises}
 use Rattle.monitor.specs.Claims.{Made}
-use Rattle.monitor.proofs.Keeps.{Keeps, call_of, argument_of, target_of, answer_of, size_of, busy_of, room_of}
+use Rattle.monitor.proofs.Keeps.{Keeps, number_of, call_of, argument_of, target_of, answer_of, size_of, busy_of, room_of}
+use Rattle.monitor.specs.contracts.refused as Refused
+use Rattle.monitor.proofs.refused.Symbol as RefusedCode
+use Rattle.monitor.proofs.refused.Met as RefusedMet
 use Rattle.monitor.specs.contracts.AnswerFromResultWrittenRefusal.from as Told
 use Rattle.monitor.proofs.AnswerFromResultWrittenRefusal.from.Symbol as ToldCode
 use Rattle.monitor.proofs.AnswerFromResultWrittenRefusal.from.Met as ToldMet
@@ -31,6 +34,9 @@ use Rattle.monitor.proofs.write_answer.Symbol as WriteAnswerCode
 use Rattle.monitor.proofs.write_answer.Met as WriteAnswerMet
 
 module _ {M : Type 1} where
+  pub refused_keeps : Keeps M Refused.ended RefusedCode.code RefusedCode.name (λ κs a r e. r ≡ refusal (number_of a))
+  refused_keeps = RefusedMet.met
+
   pub told_keeps : Keeps M Told.ended ToldCode.code ToldCode.name (λ κs a r e. r ≡ as_answer (call_of a))
   told_keeps = ToldMet.met
 

@@ -6,7 +6,7 @@ ghost use Rattle.std.specs.Prelude.{◌≡◌, cond, leb, length, IfOk};
 ghost use Rattle.wire.specs.Output.{overwrite};
 ghost use Rattle.refusal.specs.Refusal.{number};
 ghost use Rattle.image.specs.Refusal.{observer_number};
-ghost use Rattle.monitor.specs.Calls.{output_answer, as_answer, as_post_answer};
+ghost use Rattle.monitor.specs.Calls.{refusal, output_answer, as_answer, as_post_answer};
 
 use refusal::Refusal;
 
@@ -40,6 +40,17 @@ pub struct Posted {
     pub delivered: bool,
 }
 
+// What a refused call tells.
+pub fn refused(number: u8) -> Answer
+    ensures { result ≡ refusal number }
+{
+    Answer {
+        number,
+        length: 0,
+        busy: 0,
+    }
+}
+
 impl From<Result<Written, Refusal>> for Answer {
     ghost from_gives = { λ call answer. answer ≡ as_answer call };
 
@@ -50,11 +61,7 @@ impl From<Result<Written, Refusal>> for Answer {
                 length: written.length,
                 busy: written.busy,
             },
-            Err(refusal) => Answer {
-                number: u8::from(refusal),
-                length: 0,
-                busy: 0,
-            },
+            Err(refusal) => refused(u8::from(refusal)),
         }
     }
 }

@@ -1,6 +1,7 @@
 // What is looked for in a mailbox: the messages of a label or those that flow to one, as a set, and what the set tells.
 // A used slot is a clause and no type, which would borrow the table that turns change. A label is a byte, as in definition `Message`, so
 // that it is at most 15 is asked where it is looked for.
+// Each function takes a table, a slot of it and a label, since each asks one question of the three.
 #![tactic(auto)]
 
 ghost use Rattle.std.specs.Prelude.{ℕ, Bool, ◌<◌, ◌≤◌, ◌≡◌, cond, eqb};
@@ -83,7 +84,8 @@ pub fn find(table: &Table, slot: SlotNumber, label: u8) -> Found
     }
 }
 
-// What the count of a label's messages tells: whether there is room for one more, and how many messages were looked at.
+// What the count of a label's messages tells: whether there is room for one more, and how many messages were looked at, which it tells in
+// either case, as definition `look` does.
 #[derive(Clone, Copy)]
 pub struct Looked {
     pub room: bool,

@@ -50,6 +50,7 @@ struct View<'a> {
 // How many bytes the length of a record has, which stands ahead of it.
 const LENGTH_SIZE: usize = 2;
 
+// A used slot is asked for, as the table asks for it, and is no type: the one test that makes it, `is_shown`, tells more than that.
 impl View<'_> {
     // ---- sizes in bytes, known before the first byte is written
 

@@ -1,4 +1,5 @@
 // Turns over the table: the turn of a slot, rounds, and a run of turns. They rest on a valid state.
+// Each function takes the table and a slot of it: what says both at once would borrow the table, which it changes.
 #![tactic(auto)]
 
 ghost use Rattle.std.specs.Prelude.{◌+◌, ◌-◌, ◌%◌, ◌≤◌, ◌<◌, min, max, ◌≡◌, true};
@@ -48,11 +49,10 @@ fn bottom(table: &Table) -> u8
 }
 
 // The slot behind a slot and its spare where it is used, else `before`.
-fn top_behind(table: &Table, number: usize, before: u8) -> u8
-    requires { (number < 16) × Within 0 16 (slots_in table.now) }
-    ensures { result ≡ top_behind number before (slot_at (slots_in table.now) number) }
+fn top_behind(table: &Table, slot: SlotNumber, before: u8) -> u8
+    requires { Within 0 16 (slots_in table.now) }
+    ensures { result ≡ top_behind slot.number before (slot_at (slots_in table.now) slot.number) }
 {
-    let slot = SlotNumber { number };
     if table.is_used(slot) {
         slot.number as u8 + table.spare(slot) + 1
     } else {
@@ -65,7 +65,12 @@ fn top(table: &Table) -> u8
     requires { Within 0 16 (slots_in table.now) }
     ensures { result ≡ top_of 16 (slots_in table.now) }
 {
-    (0..16).fold(0, |before, number| top_behind(table, number, before))
+    (0..16).fold(
+        0,
+        |before, number|
+            requires { (number < 16) × Within 0 16 (slots_in table.now) }
+        { top_behind(table, SlotNumber { number }, before) },
+    )
 }
 
 // ---- rounds

@@ -8,6 +8,7 @@ use lib.Dec.{ltb, eqb}
 use lib.ListN.{length}
 use Rattle.wire.specs.Lists.{each, tabulate, Every, all}
 use Rattle.wire.specs.Inner.{same}
+use Rattle.wire.specs.Output.{overwrite}
 use Rattle.wire.proofs.Lists.{split, and_both, each_at, first_passes}
 use Rattle.wire.proofs.Tabulate.{length_tabulate, get_d_tabulate}
 use Rattle.wire.proofs.Equal.{same_equal}
@@ -38,6 +39,10 @@ module _ (k : ℕ) (h : k < length table) where
 
   pub word_no_space : Every (λ y. eqb y 32 ≡ false) (word_of k)
   word_no_space = none_passes (λ y. eqb y 32) (word_of k) facts.1
+
+-- where the code is the number k, what was written is its word
+pub word_put : (after w out : List ℕ) (code k : ℕ) → code ≡ k → after ≡ overwrite w out → w ≡ word_of k → after ≡ overwrite (word_of code) out
+word_put after w out code k e wrote same = rw (e, ← same) wrote
 
 pub code_word : (w : List ℕ) → code_of w < length table → word_of (code_of w) ≡ w
 unfolding code_of

@@ -17,9 +17,9 @@ unused_here (used t) e = cc
 pub returns-then-is_used : goal.returns-then-is_used
 returns-then-is_used c =
     let a = c.args in
-    rw (used_here (slot_at (slots_in a.table.now) a.number) (sym c.is_used.ensures ∙ c.if-is_used.true), c.spare.ensures)
+    rw (used_here (slot_at (slots_in a.table.now) a.slot.number) (sym c.is_used.ensures ∙ c.if-is_used.true), c.spare.ensures)
 
 pub returns-else-is_used : goal.returns-else-is_used
 returns-else-is_used c =
     let a = c.args in
-    rw (unused_here (slot_at (slots_in a.table.now) a.number) (sym c.is_used.ensures ∙ c.if-is_used.false))
+    rw (unused_here (slot_at (slots_in a.table.now) a.slot.number) (sym c.is_used.ensures ∙ c.if-is_used.false))
