@@ -8,8 +8,8 @@ ghost use Rattle.wire.specs.Output.{overwrite};
 ghost use Rattle.text.specs.Text.{decimal, spaced, line_rest};
 ghost use Rattle.text.specs.Inner.{is_digit, is_decimal, value_from, byte_value, number_read};
 
-// ---- writing: a writer takes an output that has room and tells how many bytes it wrote, so that its caller lends what is left to the next.
-// A writer that kept the place would be the buffer with a length beside.
+// ---- writing: a writer takes an output that has room and tells how many bytes it wrote, so that its caller lends what is left to the
+// next. A writer that kept the place would be the buffer with a length beside.
 
 // Writes a text: how many bytes.
 pub fn put(out: &mut [u8], text: &[u8]) -> usize
@@ -87,7 +87,8 @@ fn is_decimal(s: &[u8]) -> bool
     all_digits(s) & ((n == 1) | ((1 < n) & (b'0' < wire::byte_at(s, 0))))
 }
 
-// The number that digits make, none where it is above 255, however many they are: none behind makes it smaller.
+// The number that digits make, none where it is above 255, however many they are: none behind makes it smaller. It is public, since of
+// digits that no byte ends `read_number` tells nothing.
 pub fn value(s: &[u8]) -> Option<u8>
     ensures { result ≡ byte_value (value_from 0 s.now) }
 {
