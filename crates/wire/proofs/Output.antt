@@ -5,13 +5,15 @@ use mathlib.Core.List.{List, [], ◌++◌, append_assoc, append-nil}
 use native.Mathlib.Nat.{zero-add, le_of_eq}
 use native.Mathlib.Numerals.{add-one}
 use native.Mathlib.Omega.{arith}
-use borrow.Author.Tests.{le-leb, lt-leb}
+use borrow.Author.Tests.{leb-true, le-leb, lt-leb}
 use borrow.Rule.Slice.PartMut.{put_mid}
+use lib.Dec.{leb}
 use lib.ListN.{length, get_or, take, drop, set, length-append, length-drop, drop_of_length-le}
 use lib.Seq.{take-append_seam, drop-append_seam, take_at, drop_at, drop-drop, paste-suc, take_all, sets, sets-eq}
 use Rattle.wire.specs.Output.{overwrite}
 use Rattle.wire.specs.Inner.{written}
 use Rattle.wire.specs.Items.{encode_items}
+use Rattle.wire.proofs.Lists.{split}
 use Rattle.wire.proofs.Items.{items_next}
 
 -- the first bytes are those written
@@ -32,6 +34,10 @@ written_fits w out h = rw (le-leb (length w) (length out) h)
 
 pub written_short : (w out : List ℕ) → length out < length w → written w out ≡ out
 written_short w out h = rw (lt-leb (length w) (length out) h)
+
+pub length_written : (w out : List ℕ) → length (written w out) ≡ length out
+length_written w out =
+    split (leb (length w) (length out)) (λ e. rw e (length_overwrite w out (leb-true (length w) (length out) e))) (λ e. rw e)
 
 -- a copy's next element
 pub copy_next : {A : Type 0} (s d : List A) (i : ℕ) (z : A) → i < length s → i < length d → set (take i s ++ drop i d) i (get_or s i z) ≡ take (i + 1) s ++ drop (i + 1) d

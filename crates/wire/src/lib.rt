@@ -5,7 +5,7 @@
 ghost use Rattle.std.specs.Prelude.{◌<◌, ◌≤◌, min, ◌≡◌, [], ◌∷◌, eqb, length, get_or, take, drop};
 ghost use Rattle.wire.specs.Numbers.{decode_number, encode_number};
 ghost use Rattle.wire.specs.Lists.{first_index};
-ghost use Rattle.wire.specs.Inner.{written};
+ghost use Rattle.wire.specs.Inner.{written, same};
 ghost use Rattle.wire.specs.Slices.{offset_by};
 
 // Byte i of s, and 0 past its end.
@@ -28,6 +28,13 @@ pub fn drop(s: &[u8], n: usize) -> &[u8]
         × (result.ref_ptr ≡ offset_by (min n (length s.now)) s.entry.ref_ptr) }
 {
     &s[n.min(s.len())..]
+}
+
+// Whether s and t are the same bytes: the library's comparison, which this says to be definition `same`.
+pub fn same(s: &[u8], t: &[u8]) -> bool
+    ensures { result ≡ same s.now t.now }
+{
+    s == t
 }
 
 // The index of the first byte x of s, its length where it has none, as `first_index` says it: what stands ahead of x is then all of s.
@@ -56,13 +63,16 @@ pub fn decode_u32(s: &[u8]) -> u32
     u32::from_be_bytes([s[0], s[1], s[2], s[3]])
 }
 
-// Copies a source to the front of an output that has room for it: every write is this one.
+// Copies a source to the front of an output that has room for it: every write is this one. Byte by byte, since `copy_from_slice` has the
+// archive call memmove, which it needs for nothing else.
 pub fn copy(out: &mut [u8], source: &[u8])
     ensures { out.new ≡ written source.now out.old }
 {
     let n = source.len();
     if n <= out.len() {
-        out[..n].copy_from_slice(source);
+        for i in 0..n {
+            out[i] = source[i];
+        }
     }
 }
 

@@ -8,7 +8,7 @@ ghost use Rattle.word.specs.Word.{word_of};
 ghost use Rattle.word.specs.Inner.{code_found};
 
 // The number of words: their codes are 0 to 13.
-const WORDS: u8 = 14;
+pub const WORDS: u8 = 14;
 
 // The word of a code, no bytes where the table has none, as `word_of` says.
 #[tactic(auto, unfolding(crate::specs::Word::word_of, wire::specs::Lists::tabulate, text::specs::Text::ascii))]
@@ -46,7 +46,7 @@ pub fn put(out: &mut [u8], code: u8) -> usize
 fn is_word(s: &[u8], code: u8) -> bool
     ensures { result ≡ same s.now (word_of code) }
 {
-    s == word(code)
+    wire::same(s, word(code))
 }
 
 // The code of a word, none where it is not in the table.
