@@ -201,6 +201,10 @@ module _ (b : List ℕ) (e : has_line b ≡ true) where
       let f = line_stands b has_some in
       omega (arith, has_length, f.size, ap length f.stands, length-append (line_text (line_at b)) (drop (line_length b) b))
 
+pub has_none : (b : List ℕ) → has_line b ≡ false → line_length b ≡ 0
+unfolding line_length
+has_none b e = rw e
+
 -- ---- what is told of the line at the front of b
 
 module _ (b : List ℕ) where
@@ -211,13 +215,9 @@ module _ (b : List ℕ) where
       (λ t. let found : Some (told_line b) ≡ Some r = rw t at e in (t, cc))
       (λ t. let found : None ≡ Some r = rw t at e in cc)
 
-  has_none : has_line b ≡ false → line_length b ≡ 0
-  unfolding line_length
-  has_none e = rw e
-
   pub none_told : read_line b ≡ None → line_length b ≡ 0
   unfolding read_line
   none_told e =
       split (has_line b)
       (λ t. let found : Some (told_line b) ≡ None = rw t at e in cc)
-      (λ t. has_none t)
+      (λ t. has_none b t)

@@ -2,7 +2,7 @@
 use Prim.Native.Nat.{ℕ, zero, suc, ◌+◌, ◌*◌, ◌/◌, ◌%◌, ◌-◌, ◌<◌, ◌≤◌}
 use mathlib.Core.Logic.{dite}
 use mathlib.Core.Path.{◌≡◌, refl, sym, ap, ◌∙◌}
-use mathlib.Core.Bool.{true, false, ◌&&◌, ◌||◌}
+use mathlib.Core.Bool.{Bool, true, false, ◌&&◌, ◌||◌}
 use mathlib.Core.List.{List, [], ◌∷◌, ◌++◌, append-nil, append_assoc}
 use native.Mathlib.Decide.{dec_lt}
 use native.Mathlib.Nat.{not-suc-le-zero}
@@ -16,7 +16,7 @@ use Rattle.wire.specs.Lists.{Every, all, first_index}
 use Rattle.wire.proofs.Lists.{length_nil, split, and_both, all_append, first_le, first_passes, first_behind}
 use Rattle.text.specs.Text.{decimal}
 use Rattle.text.specs.Inner.{is_digit, is_decimal, value_from, byte_value, ahead, number_length, number_value, number_read}
-use Rattle.text.specs.declared.Number.{Number}
+use Rattle.std.specs.Bool.{then_some}
 use Rattle.std.proofs.Common.{Option, Some, None}
 use Rattle.text.proofs.Text.{decimal_digit, decimal_more, length_digit, length_more}
 
@@ -200,19 +200,20 @@ value_whole x s i end h = rw (drop_of_length-le s end, le-leb x 255 h) refl
 -- ---- a number as it is read
 
 module _ (end : ℕ) (b : List ℕ) where
-  abbrev stands : Number
-  stands = record { value = byte_value (number_value end b); length = number_length end b }
+  -- its value is told in any case
+  pub number_told : (number_read end b).value ≡ byte_value (number_value end b)
+  unfolding number_read
+  number_told = refl
 
-  -- it is there exactly where one stands, and it is that one
-  pub number_some : (n : Number) → number_read end b ≡ Some n
-      → (0 < number_length end b) × (n.value ≡ byte_value (number_value end b)) × (n.length ≡ number_length end b)
+  -- its bytes are told exactly where it stands
+  pub number_some : (n : ℕ) → (number_read end b).length ≡ Some n → (0 < number_length end b) × (n ≡ number_length end b)
   unfolding number_read
   number_some n =
       split (ltb 0 (number_length end b))
-      (λ t. rw t (λ e. let same : stands ≡ n = cc in rw (← same) (ltb-true 0 (number_length end b) t, refl, refl)))
+      (λ t. rw t (λ e. let same : number_length end b ≡ n = cc in (ltb-true 0 (number_length end b) t, sym same)))
       (λ t. rw t (λ e. cc))
 
-  pub number_none : number_read end b ≡ None → number_length end b ≡ 0
+  pub number_none : (number_read end b).length ≡ None → number_length end b ≡ 0
   unfolding number_read
   number_none =
       split (ltb 0 (number_length end b))
@@ -220,11 +221,10 @@ module _ (end : ℕ) (b : List ℕ) where
       (λ t. let none = ltb-false 0 (number_length end b) t in λ e. omega arith)
 
   -- by the tests that find it
-  pub number_found : {n : ℕ} {v : Option ℕ} → (ltb (length (ahead end b)) (length b) && is_decimal (ahead end b)) ≡ true → v ≡ byte_value (number_value end b)
-      → n ≡ length (ahead end b) → Some (record { value = v; length = n + 1 }) ≡ number_read end b
+  pub number_found : {n : ℕ} {v l : Option ℕ} {stands : Bool}
+      → stands ≡ ltb (length (ahead end b)) (length b) && is_decimal (ahead end b)
+      → v ≡ byte_value (number_value end b) → n ≡ length (ahead end b) → l ≡ then_some stands (n + 1)
+      → record { value = v; length = l } ≡ number_read end b
   unfolding number_read number_length
-  number_found t e k = rw (e, k, t, lt-ltb 0 (suc (length (ahead end b))) (omega arith), add-one (length (ahead end b)))
-
-  pub number_missed : (ltb (length (ahead end b)) (length b) && is_decimal (ahead end b)) ≡ false → None ≡ number_read end b
-  unfolding number_read number_length
-  number_missed t = rw t
+  number_found {stands = true} t e k m = rw (e, m, k, ← t, lt-ltb 0 (suc (length (ahead end b))) (omega arith), add-one (length (ahead end b)))
+  number_found {stands = false} t e k m = rw (e, m, ← t)

@@ -31,6 +31,6 @@ number_length end b = cond (ltb (length (ahead end b)) (length b) && is_decimal 
 unfoldable pub number_value : ℕ → List ℕ → ℕ
 number_value end b = value_from 0 (ahead end b)
 
--- and both as they are read: the number as a byte; and where none stands there, there is none
-unfoldable pub number_read : ℕ → List ℕ → Option Number
-number_read end b = cond (ltb 0 (number_length end b)) (Some (record { value = byte_value (number_value end b); length = number_length end b })) None
+-- and both as they are read: the number as a byte; and how many bytes, none where no number stands there
+unfoldable pub number_read : ℕ → List ℕ → Number
+number_read end b = record { value = byte_value (number_value end b); length = cond (ltb 0 (number_length end b)) (Some (number_length end b)) None }

@@ -87,8 +87,7 @@ fn is_decimal(s: &[u8]) -> bool
     all_digits(s) & ((n == 1) | ((1 < n) & (b'0' < wire::byte_at(s, 0))))
 }
 
-// The number that digits make, none where it is above 255, however many they are: none behind makes it smaller. It is public, since of
-// digits that no byte ends `read_number` tells nothing.
+// The number that digits make, none where it is above 255, however many they are: none behind makes it smaller.
 pub fn value(s: &[u8]) -> Option<u8>
     ensures { result ≡ byte_value (value_from 0 s.now) }
 {
@@ -99,25 +98,23 @@ pub fn value(s: &[u8]) -> Option<u8>
     Some(x)
 }
 
-// A number that was read: its value, none where it is above 255, and how many bytes it has together with the byte that ends it.
+// A number that was read: its value, none where it is above 255, and how many bytes it has together with the byte that ends it; none of
+// these where no number stands. The value is then what the bytes ahead of that byte make, all of them where it is missing.
 #[derive(Clone, Copy)]
 pub struct Number {
     pub value: Option<u8>,
-    pub length: usize,
+    pub length: Option<usize>,
 }
 
 // Reads a number at the front of s that the byte `end` ends.
-pub fn read_number(s: &[u8], end: u8) -> Option<Number>
+pub fn read_number(s: &[u8], end: u8) -> Number
     ensures { result ≡ number_read end s.now }
 {
     let digits = wire::take(s, wire::index_of(s, end));
     let n = digits.len();
-    if (n < s.len()) & is_decimal(digits) {
-        Some(Number {
-            value: value(digits),
-            length: n + 1,
-        })
-    } else {
-        None
+    let stands = (n < s.len()) & is_decimal(digits);
+    Number {
+        value: value(digits),
+        length: stands.then_some(n + 1),
     }
 }
