@@ -24,8 +24,9 @@ const SLOT_WORDS: usize = 84;
 // The words of the whole table.
 const WORDS: usize = SLOTS * SLOT_WORDS;
 
-// The words of the sixteen slots: one array of fixed size, in which word i of each slot stands beside word i of the others.
-#[derive(Drop)]
+// The words of the sixteen slots: one array of fixed size, in which word i of each slot stands beside word i of the others. It is Copy as an
+// array is; no call makes a copy.
+#[derive(Clone, Copy)]
 pub struct Table {
     words: [u64; WORDS],
 }
