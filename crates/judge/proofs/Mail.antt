@@ -29,7 +29,7 @@ messages = decode_items 6 message_of
 -- ---- counts
 
 -- a label in range has a count
-label_low : (label sender : ℕ) → (leb label 15 && leb sender highest_sender) ≡ true → label < 16
+pub label_low : (label sender : ℕ) → (leb label 15 && leb sender highest_sender) ≡ true → label < 16
 label_low label sender r = omega (arith, leb-true label 15 (and_both (leb label 15) (leb sender highest_sender) r).0)
 
 -- the messages are in range, and the counts are theirs, four of a label at most

@@ -87,6 +87,13 @@ module _ (s : State) (ok : Valid s) where
       dite (dec_lt j 16) (λ l. l)
       (λ l. let z : ◌≡◌ {A = ℕ} 0 1 = cc (get_or-eq_default ss unused {n = j} (omega (arith, spares.slot_count))) in absurd (omega arith))
 
+  pub valid_sixteen : Within 0 16 ss
+  valid_sixteen j = each (slot_at ss j) refl
+    where
+      each : (x : Slot) → slot_at ss j ≡ x → WithinSlot 0 16 j x
+      each unused e = tt
+      each (used t) e = (omega arith, omega (arith, spares.fits j (omega (arith, inside j t e)), ap spare_of e))
+
   -- no used slot lies in another's spare, so the last one's is behind all of them
   below_top : (j : ℕ) (t : Task) → slot_at ss j ≡ used t → (n : ℕ) → j < n → j + t.spare < top_of n ss
   unfolding top_of

@@ -16,7 +16,15 @@ pub length_slots : (t : List ℕ) → length (slots_of_words t) ≡ 16
 unfolding slots_of_words
 length_slots t = length_tabulate 16 (λ s. held (task_in (window t s)))
 
--- a slot whose task has a message is used
+-- a slot whose task has a kind is used
+pub kind_used : (ss : List Slot) (s : ℕ) → 0 < (task_at ss s).kind → Used s ss
+kind_used ss s = there (slot_at ss s)
+  where
+    there : (x : Slot) → 0 < (task_or x).kind → x ≡ used (task_or x)
+    there unused h = absurd (omega arith)
+    there (used t) h = refl
+
+-- and so is one with a message
 pub mail_used : (ss : List Slot) (s i : ℕ) → i < length (task_at ss s).mailbox → Used s ss
 mail_used ss s i = there (slot_at ss s)
   where

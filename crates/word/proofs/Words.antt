@@ -1,10 +1,11 @@
--- Laws of the words: no word has a space, each has its own code, and a code that was found has that word.
+-- Laws of the words: no word has a space or more than eight letters, each has its own code, and a code that was found has that word.
 use Prim.Native.Nat.{ℕ, ◌<◌, ◌≤◌}
 use mathlib.Core.Path.{◌≡◌, refl, sym}
 use mathlib.Core.Bool.{Bool, true, false, ◌&&◌, not}
 use mathlib.Core.List.{List, [], ◌∷◌}
-use borrow.Author.Tests.{ltb-true, ltb-false, eqb-true, not-true}
-use lib.Dec.{ltb, eqb}
+use native.Mathlib.Omega.{arith}
+use borrow.Author.Tests.{leb-true, ltb-true, ltb-false, eqb-true, not-true}
+use lib.Dec.{leb, ltb, eqb}
 use lib.ListN.{length}
 use Rattle.wire.specs.Lists.{each, tabulate, Every, all}
 use Rattle.wire.specs.Inner.{same}
@@ -13,7 +14,7 @@ use Rattle.wire.proofs.Lists.{split, and_both, each_at, first_passes}
 use Rattle.wire.proofs.Tabulate.{length_tabulate, get_d_tabulate}
 use Rattle.wire.proofs.Equal.{same_equal}
 use Rattle.text.specs.Text.{ascii}
-use Rattle.instruction.specs.Table.{table}
+use Rattle.instruction.specs.Table.{Row, table, by_code}
 use Rattle.word.specs.Word.{word_of}
 use Rattle.word.specs.Inner.{code_of, code_found}
 use Rattle.std.proofs.Common.{Some, None}
@@ -51,6 +52,20 @@ code_word w h =
     let long : length codes ≡ length table = length_tabulate (length table) (λ k. k) in
     let found = first_passes (λ k. same w (word_of k)) codes 0 (rw long h) in
     sym (same_equal w (word_of (code_of w)) (rw (get_d_tabulate (length table) (λ k. k) (code_of w) 0 h) at found))
+
+-- ---- no word has more than eight letters
+
+rows_most : (rs : List Row) (code : ℕ) → all (λ r. leb (length (ascii r.word)) 8) rs ≡ true → length (by_code (λ r. ascii r.word) [] rs code) ≤ 8
+unfolding all
+rows_most [] code e = omega arith
+rows_most (r ∷ rs) code e =
+    let b = and_both (leb (length (ascii r.word)) 8) (all (λ r. leb (length (ascii r.word)) 8) rs) e in
+    let ih = rows_most rs code b.1 in
+    split (eqb code r.code) (λ t. rw t (leb-true _ _ b.0)) (λ t. rw t ih)
+
+pub word_most : (code : ℕ) → length (word_of code) ≤ 8
+unfolding word_of all ascii tabulate
+word_most code = rows_most table code refl
 
 -- ---- a word whose code is found
 
