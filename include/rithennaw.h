@@ -34,7 +34,7 @@
  * what it may write. Every call returns: none waits, and none fails but by its number. A call takes less than
  * RITHENNAW_STACK bytes of the caller's stack, what the loader takes to bind memset and memcpy at a first call included.
  * That is measured on x86-64 and not proved; `make link-test` prints the figure of each call and fails where one is not
- * less. Of the C library the archive uses memset, memcpy and memmove at most.
+ * less. Of the C library the archive uses memset and memcpy at most.
  */
 #ifndef RITHENNAW_H
 #define RITHENNAW_H
